@@ -1,0 +1,4 @@
+pub mod Records
+pub mod Trees
+pub mod Run
+pub mod Laws

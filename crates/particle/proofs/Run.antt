@@ -1,0 +1,68 @@
+-- What the loop of `run_len` keeps. Assumes nothing.
+use mathlib.Core.Path.{_≡_, refl, ap, sym, _∙_}
+use mathlib.Core.List.{List, [], _∷_}
+use Prim.Native.Nat.{ℕ, zero, suc, _+_, _*_, _-_, _/_, _≤_, _<_}
+use native.Mathlib.Nat.{add-comm}
+use native.Mathlib.Omega.{arith}
+use lib.ListN.{length, drop, length-drop}
+use lib.Seq.{drop-drop}
+use Rattle.particle.specs.declared.Record.{Record}
+use Rattle.particle.specs.Record.{recordSize, recordAt}
+use Rattle.particle.specs.Tree.{Items, takeI, dropI, countI, sizeI, build, records, decode}
+use Rattle.particle.specs.Rows.{Complete, Row, runSize}
+use Rattle.particle.proofs.Records.{records-cons, length-records, records-drop}
+use Rattle.particle.proofs.Trees.{countI-drop, countI-le, sizeI-build, sizeI-add, complete-drop}
+
+-- one record on, where p + 1 trees are awaited
+more : (r : Record) (rs : List Record) (p : ℕ) → suc p ≤ countI (build (r ∷ rs)) → r .count ≤ countI (build rs) → p + r .count ≤ countI (build rs)
+unfolding build countI
+more r rs p e c = omega (arith, countI-drop (r .count) (build rs))
+
+more-size : (r : Record) (rs : List Record) (p : ℕ) → sizeI (takeI (suc p) (build (r ∷ rs))) ≡ suc (sizeI (takeI (p + r .count) (build rs)))
+unfolding build takeI sizeI
+more-size r rs p = rw (sizeI-add (r .count) p (build rs), add-comm (r .count) p)
+
+-- at the byte `at`, p trees are awaited
+pub record Running (t : List ℕ) (at p : ℕ) : Type 0 where
+  pub within : at ≤ length t
+  pub complete : Complete (records (drop at t))
+  pub enough : p ≤ countI (build (records (drop at t)))
+  pub total : at + recordSize * sizeI (takeI p (build (records (drop at t)))) ≡ runSize t
+
+module _ (t : List ℕ) where
+  pub start : Row 1 t → Running t 0 1
+  unfolding runSize decode
+  start w = record {
+    within = omega arith;
+    complete = w .complete;
+    enough = w .enough;
+    total = omega arith;
+  }
+
+  -- at most as many trees are awaited as records are left
+  pub room : (at p : ℕ) → Running t at p → at + recordSize * p ≤ length t
+  room at p r = omega (arith, r .within, r .enough, countI-le (build (records (drop at t))), sizeI-build (records (drop at t)), length-records (drop at t), length-drop at t)
+
+  pub step : (at p : ℕ) → Running t at p → 0 < p → Running t (at + recordSize) (p - 1 + recordAt (drop at t) .count)
+  unfolding Complete
+  step at p r h =
+      let l : recordSize ≤ length (drop at t) = omega (arith, room at p r, length-drop at t) in
+      let e : records (drop at t) ≡ recordAt (drop at t) ∷ records (drop (at + recordSize) t) = rw (← drop-drop recordSize at t) (records-cons (drop at t) l) in
+      let q : p ≡ suc (p - 1) = omega arith in
+      let c : Complete (recordAt (drop at t) ∷ records (drop (at + recordSize) t)) = rw e at (r .complete) in
+      let en : suc (p - 1) ≤ countI (build (recordAt (drop at t) ∷ records (drop (at + recordSize) t))) = rw (← e, ← q) (r .enough) in
+      let m = more (recordAt (drop at t)) (records (drop (at + recordSize) t)) (p - 1) en (c .0) in
+      let s = more-size (recordAt (drop at t)) (records (drop (at + recordSize) t)) (p - 1) in
+      record {
+        within = omega (arith, room at p r);
+        complete = c .1;
+        enough = m;
+        total = omega (arith, r .total, rw (← e, ← q) at s);
+      }
+
+  pub done : (at p : ℕ) → Running t at p → p ≤ 0 → at ≡ runSize t
+  unfolding takeI sizeI
+  done at p r h =
+      let z : p ≡ 0 = omega arith in
+      let total : at + recordSize * 0 ≡ runSize t = rw z at (r .total) in
+      omega arith

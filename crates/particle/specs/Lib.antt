@@ -1,0 +1,5 @@
+pub mod Occurs
+pub mod Record
+pub mod Tree
+pub mod Rows
+pub mod Encode

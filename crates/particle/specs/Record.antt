@@ -1,0 +1,41 @@
+-- The record of a tree: its layout in bytes, and its occurrence pair. Nothing else says the layout. Assumes nothing: these are definitions.
+use mathlib.Core.List.{List, [], _∷_, _++_}
+use Prim.Native.Nat.{ℕ, zero, suc, _+_, _*_, _/_, _%_}
+use lib.ListN.{getD}
+use Rattle.particle.specs.declared.MaxOccurs.{MaxOccurs}
+use Rattle.particle.specs.declared.MaxOccurs.the-variants.{Bounded, Unbounded}
+use Rattle.particle.specs.declared.Occurs.{Occurs}
+use Rattle.particle.specs.declared.Record.{Record}
+
+-- the length of a record in bytes
+abbrev pub recordSize : ℕ
+recordSize = 12
+
+-- a tree has at most so many records
+abbrev pub maxRecords : ℕ
+maxRecords = 255
+
+-- the 32-bit number at byte i, little-endian
+abbrev pub word : List ℕ → ℕ → ℕ
+word s i = getD s i 0 + getD s (i + 1) 0 * 256 + getD s (i + 2) 0 * 65536 + getD s (i + 3) 0 * 16777216
+
+-- the record that t starts with: kind, leaf number, item count, unbounded mark, minimum, maximum
+abbrev pub recordAt : List ℕ → Record
+recordAt t = record { kind = getD t 0 0; leaf = getD t 1 0; count = getD t 2 0; unbounded = getD t 3 0; min = word t 4; max = word t 8 }
+
+-- the four bytes of a 32-bit number
+abbrev pub wordBytes : ℕ → List ℕ
+wordBytes n = n % 256 ∷ n / 256 % 256 ∷ n / 65536 % 256 ∷ n / 16777216 ∷ []
+
+-- the bytes of a record
+abbrev pub recordBytes : Record → List ℕ
+recordBytes r = r .kind ∷ r .leaf ∷ r .count ∷ r .unbounded ∷ (wordBytes (r .min) ++ wordBytes (r .max))
+
+-- a maximum, by the unbounded mark
+abbrev pub maxOf : ℕ → ℕ → MaxOccurs
+maxOf zero n = Bounded n
+maxOf (suc mark) n = Unbounded
+
+-- `range`: the occurrence pair of a record
+abbrev pub rangeOf : Record → Occurs
+rangeOf r = record { min = r .min; max = maxOf (r .unbounded) (r .max) }

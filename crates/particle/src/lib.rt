@@ -1,0 +1,176 @@
+// Particle trees as records in preorder: the layout of a record, occurrence pairs, and the run of records that a subtree is.
+ghost use mathlib.Core.Path.{_≡_};
+ghost use Prim.Native.Nat.{suc, _+_, _≤_, _<_};
+ghost use lib.ListN.{length, drop};
+ghost use Rattle.particle.specs.Occurs.{rangeOk};
+ghost use Rattle.particle.specs.Record.{recordSize, recordAt, word, rangeOf};
+ghost use Rattle.particle.specs.Tree.{records};
+ghost use Rattle.particle.specs.Rows.{Row, itemsPart, laterPart, runSize, nthRun};
+
+// The length of a record in bytes. With the reading functions below, this file alone knows the layout.
+pub const RECORD_SIZE: usize = 12;
+
+// A tree has at most so many records.
+pub const MAX_RECORDS: usize = 255;
+
+pub const ELEMENT: u8 = 0;
+
+pub const WILDCARD: u8 = 1;
+
+pub const SEQUENCE: u8 = 2;
+
+pub const CHOICE: u8 = 3;
+
+pub const ALL: u8 = 4;
+
+// A maximum: a number or unbounded.
+pub enum MaxOccurs {
+    Bounded(u32),
+    Unbounded,
+}
+
+// An occurrence pair.
+pub struct Occurs {
+    pub min: u32,
+    pub max: MaxOccurs,
+}
+
+// One record, taken apart.
+pub struct Record {
+    pub kind: u8,
+    pub leaf: u8,
+    pub count: u8,
+    pub unbounded: u8,
+    pub min: u32,
+    pub max: u32,
+}
+
+fn wide(x: u8) -> u32
+    ensures { λ r. ⌜ (r ≡ x) × (r < 256) ⌝ }
+{
+    x as u32
+}
+
+// The four bytes at `at`, the lowest first.
+fn read_u32(s: &[u8], at: usize) -> u32
+    requires { ⌜ at + 4 ≤ length (now s) ⌝ }
+    ensures { λ r. ⌜ r ≡ word (now (s .entry)) at ⌝ }
+{
+    wide(s[at]) + wide(s[at + 1]) * 256 + wide(s[at + 2]) * 65536 + wide(s[at + 3]) * 16777216
+}
+
+// The record at the start of t.
+pub fn record_at(t: &[u8]) -> Record
+    requires { ⌜ recordSize ≤ length (now t) ⌝ }
+    ensures { λ r. ⌜ r ≡ recordAt (now (t .entry)) ⌝ }
+{
+    Record {
+        kind: t[0],
+        leaf: t[1],
+        count: t[2],
+        unbounded: t[3],
+        min: read_u32(t, 4),
+        max: read_u32(t, 8),
+    }
+}
+
+// The item count of the record at `at`.
+fn count_at(t: &[u8], at: usize) -> usize
+    requires { ⌜ at + recordSize ≤ length (now t) ⌝ }
+    ensures { λ r. ⌜ r ≡ recordAt (drop at (now (t .entry))) .count ⌝ }
+{
+    t[at + 2] as usize
+}
+
+// The occurrence pair of a record.
+pub fn range(r: Record) -> Occurs
+    ensures { λ o. ⌜ o ≡ rangeOf r ⌝ }
+{
+    if r.unbounded == 0 {
+        return Occurs {
+            min: r.min,
+            max: MaxOccurs::Bounded(r.max),
+        };
+    }
+    Occurs {
+        min: r.min,
+        max: MaxOccurs::Unbounded,
+    }
+}
+
+// Whether d's range is within b's.
+pub fn range_ok(d: Occurs, b: Occurs) -> bool
+    ensures { λ r. ⌜ r ≡ rangeOk d b ⌝ }
+{
+    if d.min < b.min {
+        return false;
+    }
+    let dmax = d.max;
+    let bmax = b.max;
+    match bmax {
+        MaxOccurs::Unbounded => true,
+        MaxOccurs::Bounded(n) => match dmax {
+            MaxOccurs::Unbounded => false,
+            MaxOccurs::Bounded(m) => m <= n,
+        },
+    }
+}
+
+// How many records t has.
+pub fn record_count(t: &[u8]) -> usize
+    ensures { λ r. ⌜ r ≡ length (records (now (t .entry))) ⌝ }
+{
+    t.len() / RECORD_SIZE
+}
+
+// The part of t after its first n records.
+pub fn skip(t: &[u8], n: usize) -> &[u8]
+    requires { ⌜ n ≤ length (records (now t)) ⌝ }
+    ensures { λ r. ⌜ records (now r) ≡ drop n (records (now (t .entry))) ⌝ }
+{
+    let at = n * RECORD_SIZE;
+    &t[at..]
+}
+
+// How many bytes the first tree of t takes.
+pub fn run_len(t: &[u8]) -> usize
+    requires { ⌜ Row 1 (now t) ⌝ }
+    ensures { λ r. ⌜ r ≡ runSize (now (t .entry)) ⌝ }
+{
+    let mut at: usize = 0;
+    let mut pending: usize = 1;
+    while pending > 0 {
+        pending = pending - 1 + count_at(t, at);
+        at += RECORD_SIZE;
+    }
+    at
+}
+
+// The part of t that starts at the first tree's items.
+pub fn items(t: &[u8]) -> &[u8]
+    requires { ⌜ Row 1 (now t) ⌝ }
+    ensures { λ r. ⌜ now r ≡ itemsPart (now (t .entry)) ⌝ }
+{
+    &t[RECORD_SIZE..]
+}
+
+// The part of t that starts after the first tree.
+pub fn later(t: &[u8]) -> &[u8]
+    requires { ⌜ Row 1 (now t) ⌝ }
+    ensures { λ r. ⌜ now r ≡ laterPart (now (t .entry)) ⌝ }
+{
+    let n = run_len(t);
+    &t[n..]
+}
+
+// The run of records of the k-th tree of t, from 0.
+pub fn nth(t: &[u8], k: usize) -> &[u8]
+    requires { ⌜ Row (suc k) (now t) ⌝ }
+    ensures { λ r. ⌜ now r ≡ nthRun k (now (t .entry)) ⌝ }
+{
+    if k == 0 {
+        let n = run_len(t);
+        return &t[..n];
+    }
+    nth(later(t), k - 1)
+}
