@@ -2,3 +2,4 @@ pub mod Records
 pub mod Trees
 pub mod Run
 pub mod Laws
+pub mod RoundTrip

@@ -1,11 +1,12 @@
 -- A tree's bytes: its records in preorder, each with the number of its items. Assumes nothing: these are definitions.
 use mathlib.Core.List.{List, [], _∷_, _++_}
-use Prim.Native.Nat.{ℕ}
+use mathlib.Core.Path.{_≡_}
+use Prim.Native.Nat.{ℕ, _<_}
 use Rattle.particle.specs.declared.MaxOccurs.{MaxOccurs}
 use Rattle.particle.specs.declared.MaxOccurs.the-variants.{Bounded, Unbounded}
 use Rattle.particle.specs.declared.Record.{Record}
 use Rattle.particle.specs.Record.{recordBytes}
-use Rattle.particle.specs.Tree.{Head, element, wildcard, sequence, choice, all, Items, none, item, pairOf, countI}
+use Rattle.particle.specs.Tree.{Head, element, wildcard, sequence, choice, all, Items, none, item, pairOf, headOf, countI}
 
 abbrev pub kindNumber : Head → ℕ
 kindNumber (element l p) = 0
@@ -47,3 +48,13 @@ joined (r ∷ rs) = recordBytes r ++ joined rs
 
 unfoldable pub encode : Items → List ℕ
 encode x = joined (flat x)
+
+-- every element is a byte
+unfoldable pub Bytes : List ℕ → Type 0
+Bytes [] = Unit {0}
+Bytes (b ∷ bs) = (b < 256) × Bytes bs
+
+-- each record is the one that its head and count give: no field holds more than they say
+unfoldable pub Faithful : List Record → Type 0
+Faithful [] = Unit {0}
+Faithful (r ∷ rs) = (recordOf (headOf r) (r .count) ≡ r) × Faithful rs

@@ -44,6 +44,12 @@ dropI zero x = x
 dropI (suc n) none = none
 dropI (suc n) (item h k r) = dropI n r
 
+infixr 30 _then_
+-- two rows of trees, one after the other
+unfoldable pub _then_ : Items → Items → Items
+none then y = y
+item h k r then y = item h k (r then y)
+
 -- how many trees, and how many records
 unfoldable pub countI : Items → ℕ
 countI none = 0
