@@ -47,7 +47,7 @@ module _ {n : ℕ} {t : List ℕ} (w : Row (suc n) t) where
       record { even = omega (arith, w .even, some-bytes w, length-drop recordSize t); complete = c .1; enough = c .0 }
 
   -- the first tree and those after it
-  later-decode : decode (laterPart t) ≡ dropI 1 (decode t)
+  pub later-decode : decode (laterPart t) ≡ dropI 1 (decode t)
   unfolding decode runSize
   later-decode = rw (records-drop (sizeI (takeI 1 (build (records t)))) t, build-drop (records t) 1)
 

@@ -1,8 +1,9 @@
 -- Parts of a tree's bytes that start at a record: which trees they are, and where the next one starts. Assumes nothing: these are definitions.
 use mathlib.Core.List.{List, [], _∷_}
 use mathlib.Core.Path.{_≡_}
-use Prim.Native.Nat.{ℕ, zero, suc, _+_, _*_, _%_, _≤_}
+use Prim.Native.Nat.{ℕ, _+_, _*_, _%_, _≤_}
 use lib.ListN.{length, take, drop}
+use denote.Ref.{RefT, ptr, now}
 use Rattle.particle.specs.declared.Record.{Record}
 use Rattle.particle.specs.Record.{recordSize}
 use Rattle.particle.specs.Tree.{Items, takeI, countI, sizeI, build, records, decode}
@@ -33,7 +34,21 @@ itemsPart t = drop recordSize t
 abbrev pub laterPart : List ℕ → List ℕ
 laterPart t = drop (runSize t) t
 
--- the run of records of the k-th tree of t
-unfoldable pub nthRun : ℕ → List ℕ → List ℕ
-nthRun zero t = take (runSize t) t
-nthRun (suc k) t = nthRun k (laterPart t)
+-- where the k-th item of the first tree of t starts: after the tree's record and the runs of the items before it
+unfoldable pub itemStart : ℕ → List ℕ → ℕ
+itemStart k t = recordSize + recordSize * sizeI (row k (itemsPart t))
+
+-- its run of records
+unfoldable pub itemRun : ℕ → List ℕ → List ℕ
+itemRun k t = take (runSize (drop (itemStart k t) t)) (drop (itemStart k t) t)
+
+-- at is where the k-th item starts, and a tree starts there
+pub record ItemAt (k : ℕ) (t : List ℕ) (at : ℕ) : Type 0 where
+  pub start : at ≡ itemStart k t
+  pub within : at ≤ length t
+  pub whole : Row 1 (drop at t)
+
+-- the slice r is a part of the lent slice t, from this byte on, and holds these bytes
+pub record PartOf (t r : RefT (List ℕ)) (start : ℕ) (bytes : List ℕ) : Type 0 where
+  pub holds : now r ≡ bytes
+  pub place : ptr r ≡ (ptr t .0, start + ptr t .1)

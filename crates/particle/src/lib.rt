@@ -1,11 +1,11 @@
 // Particle trees as records in preorder: the layout of a record, occurrence pairs, and the run of records that a subtree is.
 ghost use mathlib.Core.Path.{_≡_};
-ghost use Prim.Native.Nat.{suc, _+_, _≤_, _<_};
+ghost use Prim.Native.Nat.{_+_, _≤_, _<_};
 ghost use lib.ListN.{length, drop};
 ghost use Rattle.particle.specs.Occurs.{rangeOk};
 ghost use Rattle.particle.specs.Record.{recordSize, recordAt, word, rangeOf};
 ghost use Rattle.particle.specs.Tree.{records};
-ghost use Rattle.particle.specs.Rows.{Row, itemsPart, laterPart, runSize, nthRun};
+ghost use Rattle.particle.specs.Rows.{Row, itemsPart, laterPart, runSize, itemStart, itemRun, ItemAt, PartOf};
 
 // The length of a record in bytes. With the reading functions below, this file alone knows the layout.
 pub const RECORD_SIZE: usize = 12;
@@ -163,14 +163,28 @@ pub fn later(t: &[u8]) -> &[u8]
     &t[n..]
 }
 
-// The run of records of the k-th tree of t, from 0.
-pub fn nth(t: &[u8], k: usize) -> &[u8]
-    requires { ⌜ Row (suc k) (now t) ⌝ }
-    ensures { λ r. ⌜ now r ≡ nthRun k (now (t .entry)) ⌝ }
+// Where the k-th item of the first tree of t starts, from 0.
+fn item_start(t: &[u8], k: usize) -> usize
+    requires { ⌜ Row 1 (now t) ⌝ }
+    requires { ⌜ k < recordAt (now t) .count ⌝ }
+    ensures { λ r. ⌜ ItemAt k (now (t .entry)) r ⌝ }
 {
-    if k == 0 {
-        let n = run_len(t);
-        return &t[..n];
+    let mut at: usize = RECORD_SIZE;
+    let mut i: usize = 0;
+    while i < k {
+        at += run_len(&t[at..]);
+        i += 1;
     }
-    nth(later(t), k - 1)
+    at
+}
+
+// The k-th item of the first tree of t: its own part of t.
+pub fn item(t: &[u8], k: usize) -> &[u8]
+    requires { ⌜ Row 1 (now t) ⌝ }
+    requires { ⌜ k < recordAt (now t) .count ⌝ }
+    ensures { λ r. ⌜ PartOf (t .entry) r (itemStart k (now (t .entry))) (itemRun k (now (t .entry))) ⌝ }
+{
+    let at = item_start(t, k);
+    let end = at + run_len(&t[at..]);
+    &t[at..end]
 }
