@@ -4,3 +4,4 @@ pub mod Run
 pub mod Laws
 pub mod ItemWalk
 pub mod RoundTrip
+pub mod ItemEncodes

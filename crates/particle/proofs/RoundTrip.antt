@@ -55,7 +55,7 @@ build-flat (item h k r) rs =
     let e : build ((flat k ++ flat r) ++ rs) ≡ k then (r then build rs) = ap build (append-assoc (flat k) (flat r) rs) ∙ (build-flat k (flat r ++ rs) ∙ ap (λ (y : Items). k then y) (build-flat r rs)) in
     rw (e, head-record h (countI k), take-then k (r then build rs), drop-then k (r then build rs))
 
-flat-split : (n : ℕ) (x : Items) → flat (takeI n x) ++ flat (dropI n x) ≡ flat x
+pub flat-split : (n : ℕ) (x : Items) → flat (takeI n x) ++ flat (dropI n x) ≡ flat x
 unfolding flat takeI dropI
 flat-split zero x = refl
 flat-split (suc n) none = refl
@@ -110,7 +110,7 @@ byte-at [] b i = omega arith
 byte-at (x ∷ t) b zero = b .0
 byte-at (x ∷ t) b (suc i) = byte-at t (b .1) i
 
-bytes-drop : (k : ℕ) (t : List ℕ) → Bytes t → Bytes (drop k t)
+pub bytes-drop : (k : ℕ) (t : List ℕ) → Bytes t → Bytes (drop k t)
 unfolding Bytes
 bytes-drop zero t b = b
 bytes-drop (suc k) [] b = b
