@@ -5,3 +5,6 @@ pub mod Laws
 pub mod ItemWalk
 pub mod RoundTrip
 pub mod ItemEncodes
+pub mod Heads
+pub mod Folds
+pub mod Every
