@@ -8,3 +8,5 @@ pub mod ItemEncodes
 pub mod Heads
 pub mod Folds
 pub mod Every
+pub mod Widths
+pub mod Build

@@ -1,0 +1,154 @@
+//! Compares the proved library's answers on single trees with the oracle's:
+//! total range, emptiable, the root's items, and refusals. Run it by
+//! compare/run. Exit status 0: all equal; 1: a difference; 2: bad usage; a
+//! panic says that the harness itself is at fault.
+
+mod check;
+mod damage;
+mod entries;
+mod faults;
+mod grow;
+mod random;
+mod refusals;
+mod small;
+mod tally;
+
+use common::tree::{RECORD, Tree};
+
+use check::Difference;
+use random::Rng;
+use tally::Tally;
+
+struct Options {
+    seed: u64,
+    /// Random trees.
+    count: u64,
+    /// Damaged strings.
+    damaged: u64,
+}
+
+/// Where a difference turned up: the run and its case, and the byte string.
+struct Found {
+    case: String,
+    bytes: Vec<u8>,
+    difference: Difference,
+}
+
+fn main() {
+    let options = options();
+    let mut tally = Tally::default();
+    // Short runs first, so that a difference shows on a small case if it can.
+    for run in [known_strings, small_trees, random_trees, damaged_strings] {
+        if let Err(found) = run(&options, &mut tally) {
+            report(&found);
+            std::process::exit(1);
+        }
+    }
+    println!("{tally}");
+}
+
+fn options() -> Options {
+    let mut options = Options { seed: 1, count: 200_000, damaged: 150_000 };
+    let mut words = std::env::args().skip(1);
+    while let Some(word) = words.next() {
+        let field = match word.as_str() {
+            "--seed" => &mut options.seed,
+            "--count" => &mut options.count,
+            "--damaged" => &mut options.damaged,
+            _ => usage(&format!("unknown argument {word}")),
+        };
+        match words.next().map(|value| value.parse()) {
+            Some(Ok(value)) => *field = value,
+            _ => usage(&format!("{word} wants a number")),
+        }
+    }
+    options
+}
+
+fn usage(message: &str) -> ! {
+    eprintln!("{message}\nusage: compare/run trees [--seed S] [--count N] [--damaged N]");
+    std::process::exit(2);
+}
+
+fn found(case: String, bytes: &[u8]) -> impl FnOnce(Difference) -> Found {
+    move |difference| Found { case, bytes: bytes.to_vec(), difference }
+}
+
+/// The trees that these runs make are good ones.
+fn accepted(bytes: &[u8]) {
+    let refusal = refusals::first(bytes);
+    assert!(refusal.is_none(), "a tree of ours is refused: {refusal:?}");
+}
+
+fn known_strings(options: &Options, tally: &mut Tally) -> Result<(), Found> {
+    let mut rng = Rng::new(options.seed, 1);
+    for (what, bytes, stated) in faults::known() {
+        let read = refusals::first(&bytes).map_or(0, |refusal| refusal.number);
+        assert!(read == stated, "{what}: refusals.rs says {read}, stated is {stated}");
+        tally.known += 1;
+        check::answers(&bytes, &mut rng, tally)
+            .map_err(found(format!("known string '{what}'"), &bytes))?;
+    }
+    Ok(())
+}
+
+fn small_trees(options: &Options, tally: &mut Tally) -> Result<(), Found> {
+    let mut rng = Rng::new(options.seed, 0);
+    for (records, pairs) in [
+        (1, &small::PAIRS[..]),
+        (2, &small::PAIRS[..]),
+        (3, &small::PAIRS[..]),
+        (4, &small::FEW_PAIRS[..]),
+    ] {
+        small::every(records, pairs, &mut |bytes| {
+            tally.small += 1;
+            accepted(bytes);
+            check::answers(bytes, &mut rng, tally).map_err(found("all small trees".into(), bytes))
+        })?;
+    }
+    Ok(())
+}
+
+fn random_trees(options: &Options, tally: &mut Tally) -> Result<(), Found> {
+    for case in 0..options.count {
+        let mut rng = Rng::new(options.seed, case);
+        let tree = grow::tree(&mut rng);
+        let bytes = tree.encode();
+        tally.random += 1;
+        accepted(&bytes);
+        assert!(Tree::decode(&bytes) == tree, "read as another tree: {tree}");
+        check::answers(&bytes, &mut rng, tally)
+            .map_err(found(format!("random tree {case} of seed {}", options.seed), &bytes))?;
+    }
+    Ok(())
+}
+
+fn damaged_strings(options: &Options, tally: &mut Tally) -> Result<(), Found> {
+    for case in 0..options.damaged {
+        let mut rng = Rng::new(!options.seed, case);
+        let bytes = damage::string(&mut rng);
+        tally.damaged += 1;
+        check::answers(&bytes, &mut rng, tally)
+            .map_err(found(format!("damaged string {case} of seed {}", options.seed), &bytes))?;
+    }
+    Ok(())
+}
+
+fn report(found: &Found) {
+    let tree = match refusals::first(&found.bytes) {
+        None => Tree::decode(&found.bytes).to_string(),
+        Some(refusal) => {
+            format!("none, refused {} at record {} (from 0)", refusal.number, refusal.record)
+        }
+    };
+    let records = found.bytes.chunks(RECORD).map(|record| {
+        let bytes = record.iter().map(|byte| format!("{byte:02x}"));
+        bytes.collect::<String>()
+    });
+    println!("difference: {}", found.difference.what);
+    println!("  case:     {}", found.case);
+    println!("  tree:     {tree}");
+    println!("  hex:      {}", records.collect::<Vec<_>>().join(" "));
+    println!("  expected: {}", found.difference.expected);
+    println!("  got:      {}", found.difference.got);
+}

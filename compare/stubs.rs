@@ -1,0 +1,46 @@
+//! Stand-ins for the types that the original functions work on. The fields are
+//! those that the used functions need, and what ties a particle to a sheet: a
+//! leaf number on each leaf, and the two verdict tables in the schema.
+
+/// An element declaration: its name is the local name number, written out.
+#[derive(Debug, Clone)]
+pub struct ElementDef {
+    pub name: String,
+    pub min_occurs: u32,
+    /// `None` is unbounded, as everywhere below.
+    pub max_occurs: Option<u32>,
+    pub leaf: u8,
+}
+
+#[derive(Debug, Clone)]
+pub struct WildcardConstraint {
+    pub process_contents: ProcessContents,
+    pub min_occurs: u32,
+    pub max_occurs: Option<u32>,
+    pub leaf: u8,
+}
+
+#[derive(Debug, Clone, Copy, PartialEq, Eq)]
+pub enum ProcessContents {
+    Strict,
+    Lax,
+    Skip,
+}
+
+#[derive(Debug, Clone)]
+pub enum Particle {
+    Element(ElementDef),
+    Wildcard(WildcardConstraint),
+    Sequence { min: u32, max: Option<u32>, items: Vec<Particle> },
+    Choice { min: u32, max: Option<u32>, items: Vec<Particle> },
+    All { min: u32, elements: Vec<ElementDef> },
+}
+
+/// The sheet's verdicts, row derived, column base: 0 ok, 1 undecided,
+/// 140..=152 a reason that the paper sets.
+#[derive(Debug, Clone)]
+pub struct CompiledSchema {
+    pub leaves: usize,
+    pub first: Vec<u8>,
+    pub second: Vec<u8>,
+}

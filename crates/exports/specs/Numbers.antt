@@ -1,0 +1,35 @@
+-- What the exported numbers mean, and what is written to a lent buffer. Assumes nothing: these are definitions.
+use mathlib.Core.Bool.{Bool, true, false, cond}
+use mathlib.Core.List.{List, _++_}
+use Prim.Native.Nat.{ℕ, _+_}
+use lib.Dec.{leb}
+use lib.ListN.{length, drop}
+use Rattle.particle.specs.declared.MaxOccurs.{MaxOccurs}
+use Rattle.particle.specs.declared.MaxOccurs.the-variants.{Bounded, Unbounded}
+use Rattle.particle.specs.declared.Occurs.{Occurs}
+use Rattle.entries.specs.Answer.{Answer, gives, refused}
+
+-- 2 to the power 32
+abbrev pub beyond : ℕ
+beyond = 4294967296
+
+abbrev pub minNumber : Answer Occurs → ℕ
+minNumber (gives o) = o .min
+minNumber (refused n) = beyond + n
+
+abbrev pub maxOccursNumber : MaxOccurs → ℕ
+maxOccursNumber (Bounded n) = n
+maxOccursNumber Unbounded = beyond
+
+abbrev pub maxNumber : Answer Occurs → ℕ
+maxNumber (gives o) = maxOccursNumber (o .max)
+maxNumber (refused n) = beyond + n
+
+abbrev pub emptiableNumber : Answer Bool → ℕ
+emptiableNumber (gives true) = 1
+emptiableNumber (gives false) = 0
+emptiableNumber (refused n) = n
+
+-- the buffer with s at its start, where s fits; else the buffer
+abbrev pub written : List ℕ → List ℕ → List ℕ
+written s out = cond (leb (length s) (length out)) (s ++ drop (length s) out) out

@@ -1,0 +1,70 @@
+// The entries for programs in C and Rust: numbers and byte slices only. Each is over the proved entry of its name.
+ghost use mathlib.Core.Path.{_≡_};
+ghost use lib.ListN.{length};
+ghost use Rattle.particle.specs.Tree.{tree};
+ghost use Rattle.totals.specs.Empty.{emptiable};
+ghost use Rattle.totals.specs.Total.{total};
+ghost use Rattle.entries.specs.Answer.{answer, refusalAlone};
+ghost use Rattle.entries.specs.ItemAnswer.{itemBytes};
+ghost use Rattle.exports.specs.Numbers.{minNumber, maxNumber, emptiableNumber, written};
+use entries::EmptiableAnswer;
+use entries::TotalAnswer;
+use particle::MaxOccurs;
+
+// 2 to the power 32: no minimum or bounded maximum reaches it.
+const BEYOND: u64 = 4294967296;
+
+// The least number of the tree's total range, or 2^32 + N where the tree is refused with N.
+#[no_mangle]
+pub extern "C" fn marker_total_min(t: &[u8]) -> u64
+    ensures { λ r. ⌜ r ≡ minNumber (answer (refusalAlone (now (t .entry))) (total (tree (now (t .entry))))) ⌝ }
+{
+    match entries::total_range(t) {
+        TotalAnswer::Total(o) => o.min as u64,
+        TotalAnswer::Refused(r) => BEYOND + (intake::number(r) as u64),
+    }
+}
+
+// The greatest number of the tree's total range, 2^32 where it is unbounded, or 2^32 + N where the tree is refused with N.
+#[no_mangle]
+pub extern "C" fn marker_total_max(t: &[u8]) -> u64
+    ensures { λ r. ⌜ r ≡ maxNumber (answer (refusalAlone (now (t .entry))) (total (tree (now (t .entry))))) ⌝ }
+{
+    match entries::total_range(t) {
+        TotalAnswer::Total(o) => {
+            let max = o.max;
+            match max {
+                MaxOccurs::Bounded(n) => n as u64,
+                MaxOccurs::Unbounded => BEYOND,
+            }
+        }
+        TotalAnswer::Refused(r) => BEYOND + (intake::number(r) as u64),
+    }
+}
+
+// 1 where the tree is emptiable, 0 where it is not, or N where it is refused with N.
+#[no_mangle]
+pub extern "C" fn marker_emptiable(t: &[u8]) -> u32
+    ensures { λ r. ⌜ r ≡ emptiableNumber (answer (refusalAlone (now (t .entry))) (emptiable (tree (now (t .entry))))) ⌝ }
+{
+    match entries::emptiable(t) {
+        EmptiableAnswer::Yes => 1,
+        EmptiableAnswer::No => 0,
+        EmptiableAnswer::Refused(r) => intake::number(r),
+    }
+}
+
+// The length in bytes of the root's k-th item, 0 where the tree is refused or k is not below the item count. The item's bytes are
+// written to the start of out where they fit; every other byte of out keeps its value.
+#[no_mangle]
+pub extern "C" fn marker_item(t: &[u8], k: usize, out: &mut [u8]) -> usize
+    ensures { λ r. ⌜ r ≡ length (itemBytes k (now (t .entry))) ⌝ }
+    ensures { λ _. ⌜ now (out .exit) ≡ written (itemBytes k (now (t .entry))) (now (out .entry)) ⌝ }
+{
+    let it = entries::item(t, k);
+    let n = it.len();
+    if n <= out.len() {
+        bytes::copy(it, out);
+    }
+    n
+}

@@ -1,0 +1,64 @@
+-- One step of the scan: a group that has its items, a record that is missing, awaited or too many, and a record's own fault. Assumes nothing.
+use mathlib.Core.Path.{_≡_, refl, ap}
+use mathlib.Core.Bool.{Bool, true, false, cond}
+use mathlib.Core.List.{List, [], _∷_}
+use Prim.Native.Nat.{ℕ, suc, _≤_}
+use native.Mathlib.Omega.{arith}
+use lib.Dec.{eqb, leb}
+use lib.ListN.{length}
+use borrow.Author.Tests.{ne-eqb, leb-true}
+use Rattle.particle.specs.declared.Record.{Record}
+use Rattle.intake.specs.declared.Fault.{Fault}
+use Rattle.intake.specs.declared.Fault.the-variants.{Fields, Pair, AllGroup, Depth, Counts}
+use Rattle.intake.specs.declared.Checked.{Checked}
+use Rattle.intake.specs.declared.Checked.the-variants.{Accepted, Refused}
+use Rattle.intake.specs.Faults.{Known, fieldsOk, pairOk, allOk, faultOf}
+use Rattle.intake.specs.Scan.{Level, level, waiting, ended, orElse, stepped, scan}
+
+pub refused : {f : Fault} → Refused f ≡ Accepted → ⊥
+refused e = let z : _≡_ {A = ℕ} 0 1 = cc in omega arith
+
+awaits : (n : ℕ) (a : Bool) (st : List Level) → waiting (level (suc n) a ∷ st) ≡ level (suc n) a ∷ st
+unfolding waiting
+awaits n a st = rw (ne-eqb (suc n) 0 (λ z. omega arith))
+
+-- a record's fault, by what its four tests say: fields, pair, all-group, depth
+abbrev pub outcome : Bool → Bool → Bool → Bool → Checked
+outcome f p g s = cond f (cond p (cond g (cond s Accepted (Refused Depth)) (Refused AllGroup)) (Refused Pair)) (Refused Fields)
+
+pub tests : (known : Known) (r : Record) (d : ℕ) (a : Bool) {f p g s : Bool} → fieldsOk known r ≡ f → pairOk r ≡ p → allOk r a ≡ g → leb d 12 ≡ s → outcome f p g s ≡ faultOf known r d a
+tests known r d a f p g s = rw (f, p, g, s)
+
+-- a record without fault passes each test
+module _ (known : Known) (r : Record) (d : ℕ) (a : Bool) (e : faultOf known r d a ≡ Accepted) where
+  pub clean : (fieldsOk known r ≡ true) × (pairOk r ≡ true) × (allOk r a ≡ true) × (leb d 12 ≡ true)
+  clean = go (fieldsOk known r) (pairOk r) (allOk r a) (leb d 12) e
+    where
+      go : (f p g s : Bool) → outcome f p g s ≡ Accepted → (f ≡ true) × (p ≡ true) × (g ≡ true) × (s ≡ true)
+      go true true true true q = (refl, refl, refl, refl)
+      go true true true false q = absurd (refused q)
+      go true true false s q = absurd (refused q)
+      go true false g s q = absurd (refused q)
+      go false p g s q = absurd (refused q)
+
+  pub shallow : d ≤ 12
+  shallow = leb-true d 12 (clean .3)
+
+module _ (known : Known) where
+  -- a group that awaits nothing more
+  pub done : (rs : List Record) (a : Bool) (st : List Level) → scan known rs (level 0 a ∷ st) ≡ scan known rs st
+  unfolding scan waiting
+  done [] a st = refl
+  done (r ∷ rs) a st = refl
+
+  pub missing : (n : ℕ) (a : Bool) (st : List Level) → scan known [] (level (suc n) a ∷ st) ≡ Refused Counts
+  unfolding scan
+  missing n a st = ap ended (awaits n a st)
+
+  pub awaited : (r : Record) (rs : List Record) (n : ℕ) (a : Bool) (st : List Level) → scan known (r ∷ rs) (level (suc n) a ∷ st) ≡ orElse (faultOf known r (suc (length st)) a) (scan known rs (level (r .count) (eqb (r .kind) 4) ∷ level n a ∷ st))
+  unfolding scan
+  awaited r rs n a st = ap (λ (w : List Level). stepped known w r (λ st′. scan known rs st′)) (awaits n a st)
+
+  pub surplus : (r : Record) (rs : List Record) → scan known (r ∷ rs) [] ≡ Refused Counts
+  unfolding scan waiting
+  surplus r rs = refl

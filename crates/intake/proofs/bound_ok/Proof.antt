@@ -1,0 +1,16 @@
+-- `intake::bound_ok` meets its contract. Assumes nothing.
+use borrow.Author.Tests.{eq-eqb, ne-eqb}
+use Rattle.intake.proofs.bound_ok.Statement.{statement}
+use Rattle.intake.proofs.bound_ok.Tie as tie
+
+returns : tie.Need-returns
+returns c = rw (eq-eqb _ _ (c .if1 .taken))
+
+returns-2 : tie.Need-returns-2
+returns-2 c = rw (ne-eqb _ _ (c .before .before .before .if1 .left), eq-eqb _ _ (c .before .if2 .taken))
+
+returns-3 : tie.Need-returns-3
+returns-3 c = rw (ne-eqb _ _ (c .before .before .if1 .left), ne-eqb _ _ (c .if2 .left))
+
+pub bound-ok-spec : {M : Type 1} → statement M
+bound-ok-spec = tie.close (tie.spec returns returns-2 returns-3)

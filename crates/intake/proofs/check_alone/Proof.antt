@@ -1,0 +1,34 @@
+-- `intake::check_alone` meets its contract: a list of 64 leaves of either kind knows what a tree alone may use. Assumes nothing.
+use mathlib.Core.Path.{_≡_, ap, _∙_, fun-ext}
+use Prim.Native.Nat.{ℕ, _≤_, _<_}
+use native.Mathlib.Decide.{decLt}
+use native.Mathlib.Omega.{arith}
+use lib.Dec.{ltb}
+use lib.ListN.{replicate, length-replicate, getD-replicate}
+use borrow.Author.Needs.{needs}
+use borrow.Author.Tests.{lt-ltb, le-ltb}
+use Rattle.intake.specs.Faults.{Known}
+use Rattle.intake.specs.Scan.{listed, refusalIn}
+use Rattle.intake.proofs.check_alone.Statement.{statement}
+use Rattle.intake.proofs.check_alone.Tie as tie
+
+either : (n kind leaf : ℕ) → listed (replicate n 2) kind leaf ≡ ltb leaf n
+either n kind leaf = go (decLt leaf n)
+  where
+    go : Dec (leaf < n) → listed (replicate n 2) kind leaf ≡ ltb leaf n
+    go (yes l) = rw (length-replicate, lt-ltb leaf n l, getD-replicate {A = ℕ} n leaf 2 0 l)
+    go (no l) =
+        let g : n ≤ leaf = omega arith in
+        rw (length-replicate, le-ltb leaf n g)
+
+slice-aggregate-check-tree : tie.Need-slice-aggregate-check-tree
+slice-aggregate-check-tree c = search needs
+
+check-tree-requires : tie.Need-check-tree-requires
+check-tree-requires c κs = search needs
+
+returns : tie.Need-returns
+returns c = c .check-tree .ensures ∙ ap (λ (known : Known). refusalIn known (c .before .before .before .args .t .now)) (fun-ext (λ kind. fun-ext (either 64 kind)))
+
+pub check-alone-spec : {M : Type 1} → statement M
+check-alone-spec = tie.close (tie.spec slice-aggregate-check-tree check-tree-requires returns)

@@ -1,0 +1,5 @@
+pub mod Faults
+pub mod Scan
+pub mod Number
+pub mod Reads
+pub mod Accepted

@@ -1,0 +1,23 @@
+-- Document 01's number of each refusal. Assumes nothing: these are definitions.
+use Prim.Native.Nat.{ℕ, _+_}
+use Rattle.intake.specs.declared.Fault.{Fault}
+use Rattle.intake.specs.declared.Fault.the-variants.{Fields, Pair, AllGroup, Depth, Counts}
+use Rattle.intake.specs.declared.Refusal.{Refusal}
+use Rattle.intake.specs.declared.Refusal.the-variants.{Contents, Buffer, Leaf, Verdict, Base, Derived}
+
+-- a fault's place in the order of the checks: fields, pair, all-group, depth, counts
+abbrev pub faultPlace : Fault → ℕ
+faultPlace Fields = 0
+faultPlace Pair = 1
+faultPlace AllGroup = 2
+faultPlace Depth = 3
+faultPlace Counts = 4
+
+-- a base tree's refusals are 5 to 9, a derived tree's or a tree alone's 10 to 14
+abbrev pub refusalNumber : Refusal → ℕ
+refusalNumber Contents = 1
+refusalNumber Buffer = 2
+refusalNumber Leaf = 3
+refusalNumber Verdict = 4
+refusalNumber (Base f) = 5 + faultPlace f
+refusalNumber (Derived f) = 10 + faultPlace f

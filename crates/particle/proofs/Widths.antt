@@ -1,0 +1,65 @@
+-- Bytes and the widths of a record's fields: records read from bytes have fields of their widths, and records with such fields are bytes. Assumes nothing.
+use mathlib.Core.List.{List, [], _∷_, _++_}
+use Prim.Native.Nat.{ℕ, zero, suc, _+_, _/_, _^_, _<_}
+use native.Mathlib.Omega.{arith}
+use lib.ListN.{length, drop}
+use Rattle.particle.specs.declared.Record.{Record}
+use Rattle.particle.specs.Record.{recordSize, recordBytes, word, wordBytes}
+use Rattle.particle.specs.Tree.{records, recordsN}
+use Rattle.particle.specs.Encode.{joined, Bytes}
+use Rattle.particle.proofs.RoundTrip.{byte-at, bytes-drop}
+
+-- four bytes and two numbers of 32 bits
+pub record Wide (r : Record) : Type 0 where
+  pub kind : r .kind < 256
+  pub leaf : r .leaf < 256
+  pub count : r .count < 256
+  pub unbounded : r .unbounded < 256
+  pub min : r .min < 2 ^ 32
+  pub max : r .max < 2 ^ 32
+
+unfoldable pub Widths : List Record → Type 0
+Widths [] = Unit {0}
+Widths (r ∷ rs) = Wide r × Widths rs
+
+-- From bytes to records --------------------------------------------------------
+
+word-width : (t : List ℕ) → Bytes t → (i : ℕ) → word t i < 2 ^ 32
+word-width t b i = omega (arith, byte-at t b i, byte-at t b (i + 1), byte-at t b (i + 2), byte-at t b (i + 3))
+
+widths-from : (n : ℕ) (t : List ℕ) → Bytes t → Widths (recordsN n t)
+unfolding Widths recordsN
+widths-from zero t b = tt
+widths-from (suc n) t b = (
+  record { kind = byte-at t b 0; leaf = byte-at t b 1; count = byte-at t b 2; unbounded = byte-at t b 3; min = word-width t b 4; max = word-width t b 8 },
+  widths-from n (drop recordSize t) (bytes-drop recordSize t b),
+)
+
+pub widths : (t : List ℕ) → Bytes t → Widths (records t)
+unfolding records
+widths t b = widths-from (length t / recordSize) t b
+
+-- From records to bytes --------------------------------------------------------
+
+bytes-append : (s t : List ℕ) → Bytes s → Bytes t → Bytes (s ++ t)
+unfolding Bytes
+bytes-append [] t b c = c
+bytes-append (x ∷ s) t b c = (b .0, bytes-append s t (b .1) c)
+
+word-bytes : (n : ℕ) → n < 2 ^ 32 → Bytes (wordBytes n)
+unfolding Bytes
+word-bytes n l = (omega arith, (omega arith, (omega arith, (omega arith, tt))))
+
+record-bytes : (r : Record) → Wide r → Bytes (recordBytes r)
+unfolding Bytes
+record-bytes r w = (w .kind, (w .leaf, (w .count, (w .unbounded, bytes-append (wordBytes (r .min)) (wordBytes (r .max)) (word-bytes (r .min) (w .min)) (word-bytes (r .max) (w .max))))))
+
+pub widths-append : (rs ss : List Record) → Widths rs → Widths ss → Widths (rs ++ ss)
+unfolding Widths
+widths-append [] ss w v = v
+widths-append (r ∷ rs) ss w v = (w .0, widths-append rs ss (w .1) v)
+
+pub widths-joined : (rs : List Record) → Widths rs → Bytes (joined rs)
+unfolding Widths joined Bytes
+widths-joined [] w = tt
+widths-joined (r ∷ rs) w = bytes-append (recordBytes r) (joined rs) (record-bytes r (w .0)) (widths-joined rs (w .1))
