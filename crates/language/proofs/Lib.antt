@@ -1,0 +1,8 @@
+pub mod Tests
+pub mod Words
+pub mod Rounds
+pub mod Joining
+pub mod Premises
+pub mod Emptiness
+pub mod Lengths
+pub mod Examples

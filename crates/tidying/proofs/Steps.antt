@@ -1,0 +1,73 @@
+-- The tests of tidying, and what follows where one holds. Assumes nothing.
+use mathlib.Core.Bool.{Bool, true, false, false≢true}
+use mathlib.Core.List.{List, _∷_, _++_}
+use mathlib.Core.Path.{_≡_, refl, ap}
+use borrow.Author.Tests.{eqb-true}
+use Rattle.particle.specs.declared.MaxOccurs.{MaxOccurs}
+use Rattle.particle.specs.declared.MaxOccurs.the-variants.{Bounded, Unbounded}
+use Rattle.particle.specs.declared.Occurs.{Occurs}
+use Rattle.particle.specs.Occurs.{isZero, isOnce}
+use Rattle.particle.specs.Tree.{Head, element, wildcard, sequence, choice, all, Items, none, item, Particle, fold, _then_}
+use Rattle.tidying.specs.Tidy.{splices, takesPair, closed, settle}
+use Rattle.tidying.specs.TidyTree.{Group}
+
+-- what holds on either side of a test holds of what it chooses
+pub branch {ℓ κ} : {A : Type ℓ} (C : A → Type κ) (c : Bool) (a b : A) → (c ≡ true → C a) → (c ≡ false → C b) → C (elim c as (λ _. A) [ true ↦ a | false ↦ b ])
+branch C true a b f g = f refl
+branch C false a b f g = g refl
+
+-- a group is a sequence or a choice
+pub group-cases {ℓ} : (C : Head → Type ℓ) → ((p : Occurs) → C (sequence p)) → ((p : Occurs) → C (choice p)) → (g : Head) → Group g → C g
+group-cases C s c (element l p) e = absurd e
+group-cases C s c (wildcard l p) e = absurd e
+group-cases C s c (sequence p) e = s p
+group-cases C s c (choice p) e = c p
+group-cases C s c (all p) e = absurd e
+
+-- a record is not altered, or is a group that is closed
+pub settle-cases {ℓ} : (C : Particle → Type ℓ) (h : Head) (k t : Items) → (¬ (Group h) → C (record { head = h; items = k })) → (Group h → C (closed h t)) → C (settle h k t)
+settle-cases C (element l p) k t f g = f (λ e. e)
+settle-cases C (wildcard l p) k t f g = f (λ e. e)
+settle-cases C (sequence p) k t f g = g tt
+settle-cases C (choice p) k t f g = g tt
+settle-cases C (all p) k t f g = f (λ e. e)
+
+-- an item that its group replaces by its items is a (1,1) sequence in a sequence, or a (1,1) choice in a choice
+pub splices-cases {ℓ} : (C : Head → Head → Type ℓ) → ((q p : Occurs) → isOnce p ≡ true → C (sequence q) (sequence p))
+    → ((q p : Occurs) → isOnce p ≡ true → C (choice q) (choice p)) → (g h : Head) → splices g h ≡ true → C g h
+splices-cases C s c (sequence q) (sequence p) e = s q p e
+splices-cases C s c (choice q) (choice p) e = c q p e
+splices-cases C s c (element l q) h e = absurd (false≢true e)
+splices-cases C s c (wildcard l q) h e = absurd (false≢true e)
+splices-cases C s c (all q) h e = absurd (false≢true e)
+splices-cases C s c (sequence q) (element l p) e = absurd (false≢true e)
+splices-cases C s c (sequence q) (wildcard l p) e = absurd (false≢true e)
+splices-cases C s c (sequence q) (choice p) e = absurd (false≢true e)
+splices-cases C s c (sequence q) (all p) e = absurd (false≢true e)
+splices-cases C s c (choice q) (element l p) e = absurd (false≢true e)
+splices-cases C s c (choice q) (wildcard l p) e = absurd (false≢true e)
+splices-cases C s c (choice q) (sequence p) e = absurd (false≢true e)
+splices-cases C s c (choice q) (all p) e = absurd (false≢true e)
+
+-- an item that takes its group's pair is a (1,1) choice in a sequence
+pub takes-cases {ℓ} : (C : Head → Head → Type ℓ) → ((q p : Occurs) → isOnce p ≡ true → C (sequence q) (choice p)) → (g h : Head) → takesPair g h ≡ true → C g h
+takes-cases C s (sequence q) (choice p) e = s q p e
+takes-cases C s (element l q) h e = absurd (false≢true e)
+takes-cases C s (wildcard l q) h e = absurd (false≢true e)
+takes-cases C s (choice q) h e = absurd (false≢true e)
+takes-cases C s (all q) h e = absurd (false≢true e)
+takes-cases C s (sequence q) (element l p) e = absurd (false≢true e)
+takes-cases C s (sequence q) (wildcard l p) e = absurd (false≢true e)
+takes-cases C s (sequence q) (sequence p) e = absurd (false≢true e)
+takes-cases C s (sequence q) (all p) e = absurd (false≢true e)
+
+-- a maximum that the test finds to be 0 is 0
+pub zero-is : (m : MaxOccurs) → isZero m ≡ true → m ≡ Bounded 0
+zero-is (Bounded n) t = ap Bounded (eqb-true n 0 t)
+zero-is Unbounded t = absurd (false≢true t)
+
+-- a fold over one row of trees after another
+pub fold-then {ℓ} : {A : Type ℓ} (f : Head → List A → A) (x y : Items) → fold f (x then y) ≡ fold f x ++ fold f y
+unfolding fold _then_
+fold-then f none y = refl
+fold-then f (item h k r) y = ap (_∷_ (f h (fold f k))) (fold-then f r y)

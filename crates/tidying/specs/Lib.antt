@@ -1,0 +1,3 @@
+pub mod Tidy
+pub mod Depth
+pub mod TidyTree

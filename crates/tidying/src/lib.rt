@@ -1,0 +1,1 @@
+// Tidying: see specs/Tidy.antt.
