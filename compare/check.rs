@@ -2,8 +2,8 @@
 //! for a refused string, the second reading of the refusals) expects, and the
 //! first answer that differs.
 
-use common::bridge::Leaves;
-use common::tree::Tree;
+use common::bridge::{self, Leaves};
+use common::tree::{RECORD, Tree};
 use oracle::doors;
 
 use crate::entries::{self, BEYOND};
@@ -24,6 +24,8 @@ struct Expected {
     emptiable: u32,
     /// The root's items, each as its run of records.
     items: Vec<Vec<u8>>,
+    /// The tidied tree, or the number of the refusal.
+    tidied: Result<Vec<u8>, u32>,
 }
 
 /// Compares every answer on `bytes`.
@@ -53,6 +55,11 @@ pub fn answers(bytes: &[u8], rng: &mut Rng, tally: &mut Tally) -> Result<(), Dif
         tally.no_items += 1;
         tally.buffers += 2;
     }
+    let room = bytes.len() + rng.within(1, 40);
+    for room in [room, bytes.len(), bytes.len().saturating_sub(1), rng.below(bytes.len() + 1)] {
+        compare_tidied(&lent, &expected.tidied, room, rng)?;
+        tally.tidied += 1;
+    }
     if lent != bytes {
         return Err(Difference {
             what: "the tree handed in".into(),
@@ -71,6 +78,7 @@ fn expect(bytes: &[u8], tally: &mut Tally) -> Expected {
             total_max: BEYOND + u64::from(refusal.number),
             emptiable: refusal.number,
             items: Vec::new(),
+            tidied: Err(refusal.number),
         };
     }
     let tree = Tree::decode(bytes);
@@ -83,6 +91,7 @@ fn expect(bytes: &[u8], tally: &mut Tally) -> Expected {
         total_max: max.map_or(BEYOND, u64::from),
         emptiable: doors::emptiable(&particle).into(),
         items: tree.items.iter().map(Tree::encode).collect(),
+        tidied: Ok(bridge::tree(&doors::normalize(&particle)).encode()),
     }
 }
 
@@ -117,6 +126,40 @@ fn emptiable_text(answer: u32) -> String {
 /// Bytes on either side of a lent buffer, to see writes outside it.
 const GUARD: usize = 16;
 
+/// A buffer of `room` bytes between guards, filled with bytes that differ from
+/// place to place.
+fn lent_buffer(room: usize, rng: &mut Rng) -> Vec<u8> {
+    let fill = rng.byte();
+    (0..GUARD + room + GUARD).map(|at| fill.wrapping_add((at as u8).wrapping_mul(37))).collect()
+}
+
+/// The first byte that differs, and where it stands: in the first `written`
+/// bytes of the buffer, after them, or outside it.
+fn same_bytes(
+    what: &str,
+    expected: &[u8],
+    got: &[u8],
+    room: usize,
+    written: usize,
+) -> Result<(), Difference> {
+    let Some(at) = (0..got.len()).find(|at| got[*at] != expected[*at]) else {
+        return Ok(());
+    };
+    let place = at as isize - GUARD as isize;
+    let part = if at < GUARD || at >= GUARD + room {
+        "outside the buffer"
+    } else if at < GUARD + written {
+        "in what is written"
+    } else {
+        "in a part that keeps its value"
+    };
+    Err(Difference {
+        what: format!("{what}: byte {place}, {part}"),
+        expected: format!("{:02x}", expected[at]),
+        got: format!("{:02x}", got[at]),
+    })
+}
+
 /// Asks for the k-th item with a buffer of `room` bytes and compares the
 /// length, every byte of the buffer, and the bytes around it.
 fn compare_item(
@@ -126,35 +169,47 @@ fn compare_item(
     room: usize,
     rng: &mut Rng,
 ) -> Result<(), Difference> {
-    let fill = rng.byte();
-    let before: Vec<u8> = (0..GUARD + room + GUARD)
-        .map(|at| fill.wrapping_add((at as u8).wrapping_mul(37)))
-        .collect();
-    let mut expected = before.clone();
-    if item.len() <= room {
-        expected[GUARD..GUARD + item.len()].copy_from_slice(item);
-    }
-    let mut got = before;
+    let mut got = lent_buffer(room, rng);
+    let mut expected = got.clone();
+    let written = if item.len() <= room { item.len() } else { 0 };
+    expected[GUARD..GUARD + written].copy_from_slice(&item[..written]);
     let length = entries::item(tree, k, &mut got[GUARD..GUARD + room]);
     if length == item.len() && got == expected {
         return Ok(());
     }
     let what = format!("item {k} into a buffer of {room} bytes");
-    let bytes = |length| format!("{length} bytes");
-    same(&format!("{what}: its length"), item.len(), length, bytes)?;
-    let differs = (0..got.len()).find(|at| got[*at] != expected[*at]);
-    let at = differs.expect("a byte that differs");
-    let place = at as isize - GUARD as isize;
-    let part = if at < GUARD || at >= GUARD + room {
-        "outside the buffer"
-    } else if item.len() <= room && at < GUARD + item.len() {
-        "in the item"
-    } else {
-        "in a part that keeps its value"
+    same(&format!("{what}: its length"), item.len(), length, |length| format!("{length} bytes"))?;
+    same_bytes(&what, &expected, &got, room, written)
+}
+
+/// Tidies into a buffer of `room` bytes and compares the count or refusal,
+/// every byte of the buffer, and the bytes around it. Refusal 2, a buffer
+/// shorter than the tree handed in, comes last.
+fn compare_tidied(
+    tree: &[u8],
+    tidied: &Result<Vec<u8>, u32>,
+    room: usize,
+    rng: &mut Rng,
+) -> Result<(), Difference> {
+    let tidied = match tidied {
+        Ok(_) if room < tree.len() => &Err(2),
+        other => other,
     };
-    Err(Difference {
-        what: format!("{what}: byte {place}, {part}"),
-        expected: format!("{:02x}", expected[at]),
-        got: format!("{:02x}", got[at]),
-    })
+    let mut got = lent_buffer(room, rng);
+    let mut expected = got.clone();
+    let (answer, bytes) = match tidied {
+        Ok(bytes) => ((bytes.len() / RECORD) as u64, &bytes[..]),
+        Err(number) => (BEYOND + u64::from(*number), &[][..]),
+    };
+    expected[GUARD..GUARD + bytes.len()].copy_from_slice(bytes);
+    let answered = entries::tidy(tree, &mut got[GUARD..GUARD + room]);
+    if answered == answer && got == expected {
+        return Ok(());
+    }
+    let what = format!("tidied into a buffer of {room} bytes");
+    same(&format!("{what}: the answer"), answer, answered, |answer| match answer.checked_sub(BEYOND) {
+        None => format!("{answer} records"),
+        Some(number) => format!("refused {number}"),
+    })?;
+    same_bytes(&what, &expected, &got, room, bytes.len())
 }

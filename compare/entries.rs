@@ -6,11 +6,12 @@ unsafe extern "C" {
     fn marker_total_min(tree: *const u8, len: usize) -> u64;
     fn marker_total_max(tree: *const u8, len: usize) -> u64;
     fn marker_emptiable(tree: *const u8, len: usize) -> u32;
+    fn marker_tidy(tree: *const u8, len: usize, out: *mut u8, out_len: usize) -> u64;
     fn marker_item(tree: *const u8, len: usize, k: usize, out: *mut u8, out_len: usize) -> usize;
 }
 
 /// What a maximum is where it is unbounded, and what is added to a refusal's
-/// number in place of a total.
+/// number in place of a total or a count.
 pub const BEYOND: u64 = 1 << 32;
 
 /// The total range's minimum; or `BEYOND` + N where the tree is refused with N.
@@ -34,4 +35,10 @@ pub fn emptiable(tree: &[u8]) -> u32 {
 /// where it fits, otherwise nothing is written.
 pub fn item(tree: &[u8], k: usize, out: &mut [u8]) -> usize {
     unsafe { marker_item(tree.as_ptr(), tree.len(), k, out.as_mut_ptr(), out.len()) }
+}
+
+/// The record count of the tidied tree, which is written to the start of
+/// `out`; or `BEYOND` + N where it is refused with N, and nothing is written.
+pub fn tidy(tree: &[u8], out: &mut [u8]) -> u64 {
+    unsafe { marker_tidy(tree.as_ptr(), tree.len(), out.as_mut_ptr(), out.len()) }
 }

@@ -24,6 +24,8 @@ pub struct Tally {
     /// Places that no item has.
     pub no_items: u64,
     pub buffers: u64,
+    /// Buffers that a tree was tidied into.
+    pub tidied: u64,
 }
 
 impl Tally {
@@ -54,7 +56,8 @@ impl fmt::Display for Tally {
              refused 10: {r10}, 11: {r11}, 12: {r12}, 13: {r13}, 14: {r14}; \
              {} total ranges (minimum 0: {min0}, 4294967295: {min_top}; \
              maximum 0: {max0}, unbounded: {unbounded}), {} emptiable, \
-             {} items and {} places without item in {} buffers",
+             {} items and {} places without item in {} buffers, \
+             tidied into {} buffers",
             self.small,
             self.random,
             self.known,
@@ -66,6 +69,7 @@ impl fmt::Display for Tally {
             self.items,
             self.no_items,
             self.buffers,
+            self.tidied,
         )
     }
 }

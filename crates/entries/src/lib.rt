@@ -1,10 +1,12 @@
-// The entries for one tree: its total range, whether it is emptiable, and the k-th item of its root. Every byte string is an input.
+// The entries for one tree: its total range, whether it is emptiable, the tidied tree, and the k-th item of its root. Every byte string
+// is an input.
 ghost use mathlib.Core.Path.{_≡_};
 ghost use Rattle.particle.specs.Tree.{tree};
 ghost use Rattle.particle.specs.Rows.{PartOf};
 ghost use Rattle.totals.specs.Empty.{emptiable};
 ghost use Rattle.totals.specs.Total.{total};
 ghost use Rattle.entries.specs.Answer.{answer, totalMeaning, emptiableMeaning, refusalAlone};
+ghost use Rattle.entries.specs.TidyAnswer.{tidyMeaning, tidyAnswer, tidyBuffer};
 ghost use Rattle.entries.specs.ItemAnswer.{itemPlace, itemBytes};
 use intake::Checked;
 use intake::Refusal;
@@ -20,6 +22,12 @@ pub enum TotalAnswer {
 pub enum EmptiableAnswer {
     Yes,
     No,
+    Refused(Refusal),
+}
+
+// What tidying a tree alone is answered by: the tidied tree's record count.
+pub enum TidiedAnswer {
+    Records(usize),
     Refused(Refusal),
 }
 
@@ -45,6 +53,23 @@ pub fn emptiable(t: &[u8]) -> EmptiableAnswer
             } else {
                 EmptiableAnswer::No
             }
+        }
+    }
+}
+
+// Tidies the tree t into out, from out's start; every later byte keeps its value. Refused, and nothing written, where t is refused or out
+// is shorter than t.
+pub fn tidy(t: &[u8], out: &mut [u8]) -> TidiedAnswer
+    ensures { λ r. ⌜ tidyMeaning r ≡ tidyAnswer (now (t .entry)) (now (out .entry)) ⌝ }
+    ensures { λ _. ⌜ now (out .exit) ≡ tidyBuffer (now (t .entry)) (now (out .entry)) ⌝ }
+{
+    match intake::check_alone(t) {
+        Checked::Refused(f) => TidiedAnswer::Refused(Refusal::Derived(f)),
+        Checked::Accepted => {
+            if out.len() < t.len() {
+                return TidiedAnswer::Refused(Refusal::Buffer);
+            }
+            TidiedAnswer::Records(tidying::normalize(t, out))
         }
     }
 }

@@ -30,6 +30,10 @@ emptiableNumber (gives true) = 1
 emptiableNumber (gives false) = 0
 emptiableNumber (refused n) = n
 
+abbrev pub countNumber : Answer ℕ → ℕ
+countNumber (gives n) = n
+countNumber (refused n) = beyond + n
+
 -- the buffer with s at its start, where s fits; else the buffer
 abbrev pub written : List ℕ → List ℕ → List ℕ
 written s out = cond (leb (length s) (length out)) (s ++ drop (length s) out) out

@@ -6,8 +6,10 @@ ghost use Rattle.totals.specs.Empty.{emptiable};
 ghost use Rattle.totals.specs.Total.{total};
 ghost use Rattle.entries.specs.Answer.{answer, refusalAlone};
 ghost use Rattle.entries.specs.ItemAnswer.{itemBytes};
-ghost use Rattle.exports.specs.Numbers.{minNumber, maxNumber, emptiableNumber, written};
+ghost use Rattle.entries.specs.TidyAnswer.{tidyAnswer, tidyBuffer};
+ghost use Rattle.exports.specs.Numbers.{minNumber, maxNumber, emptiableNumber, countNumber, written};
 use entries::EmptiableAnswer;
+use entries::TidiedAnswer;
 use entries::TotalAnswer;
 use particle::MaxOccurs;
 
@@ -51,6 +53,19 @@ pub extern "C" fn marker_emptiable(t: &[u8]) -> u32
         EmptiableAnswer::Yes => 1,
         EmptiableAnswer::No => 0,
         EmptiableAnswer::Refused(r) => intake::number(r),
+    }
+}
+
+// The record count of the tidied tree, which is written to the start of out, or 2^32 + N where it is refused with N and nothing is
+// written; every other byte of out keeps its value.
+#[no_mangle]
+pub extern "C" fn marker_tidy(t: &[u8], out: &mut [u8]) -> u64
+    ensures { λ r. ⌜ r ≡ countNumber (tidyAnswer (now (t .entry)) (now (out .entry))) ⌝ }
+    ensures { λ _. ⌜ now (out .exit) ≡ tidyBuffer (now (t .entry)) (now (out .entry)) ⌝ }
+{
+    match entries::tidy(t, out) {
+        TidiedAnswer::Records(n) => n as u64,
+        TidiedAnswer::Refused(r) => BEYOND + (intake::number(r) as u64),
     }
 }
 

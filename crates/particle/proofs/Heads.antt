@@ -1,9 +1,29 @@
--- Which head a kind number gives, for functions that treat both leaves alike, or a sequence and an all-group. Assumes nothing.
+-- Which maximum a mark gives, and which head a kind number gives, for functions that treat both leaves alike, or a sequence and an all-group. Assumes nothing.
 use mathlib.Core.Path.{_≡_, refl}
 use Prim.Native.Nat.{ℕ, zero, suc, _≤_, _<_}
 use native.Mathlib.Omega.{arith}
+use Rattle.particle.specs.declared.MaxOccurs.the-variants.{Unbounded}
 use Rattle.particle.specs.declared.Occurs.{Occurs}
-use Rattle.particle.specs.Tree.{Head, element, wildcard, sequence, choice, all, headFrom}
+use Rattle.particle.specs.declared.Record.{Record}
+use Rattle.particle.specs.Record.{maxOf, rangeOf}
+use Rattle.particle.specs.Tree.{Head, element, wildcard, sequence, choice, all, pairOf, headFrom, headOf}
+
+-- a mark that is not 0 is unbounded
+pub marked : (mark n : ℕ) → (mark ≡ 0 → ⊥) → maxOf mark n ≡ Unbounded
+marked zero n z = absurd (z refl)
+marked (suc mark) n z = refl
+
+-- every head has the pair that it was made with
+pair-kind : (k l : ℕ) (p : Occurs) → pairOf (headFrom k l p) ≡ p
+pair-kind zero l p = refl
+pair-kind (suc zero) l p = refl
+pair-kind (suc (suc zero)) l p = refl
+pair-kind (suc (suc (suc zero))) l p = refl
+pair-kind (suc (suc (suc (suc k)))) l p = refl
+
+-- the pair of a record is that of its head
+pub pair-record : (r : Record) → pairOf (headOf r) ≡ rangeOf r
+pair-record r = pair-kind (r .kind) (r .leaf) (rangeOf r)
 
 module _ {ℓ} {A : Type ℓ} (f : Head → A) (l : ℕ) (p : Occurs) where
   pub leaf-kind : f (wildcard l p) ≡ f (element l p) → (k : ℕ) → k < 2 → f (headFrom k l p) ≡ f (element l p)

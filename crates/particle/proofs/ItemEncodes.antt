@@ -16,7 +16,7 @@ use Rattle.particle.proofs.Laws.{tree-is}
 use Rattle.particle.proofs.ItemWalk.{Walk, begin, next, one-left}
 use Rattle.particle.proofs.RoundTrip.{encode-decode, flat-split, bytes-drop}
 
-joined-append : (a b : List Record) → joined (a ++ b) ≡ joined a ++ joined b
+pub joined-append : (a b : List Record) → joined (a ++ b) ≡ joined a ++ joined b
 unfolding joined
 joined-append [] b = refl
 joined-append (r ∷ a) b = ap (λ (x : List ℕ). recordBytes r ++ x) (joined-append a b) ∙ sym (append-assoc (recordBytes r) (joined a) (joined b))
@@ -56,7 +56,7 @@ drop-take (suc k) (suc n) none h = refl
 drop-take (suc k) (suc n) (item h i r) l = drop-take k n r (omega arith)
 
 -- the first tree's run is its encoding
-run-encodes : {n : ℕ} (s : List ℕ) → Bytes s → Row n s → Faithful (records s) → take (runSize s) s ≡ encode (row 1 s)
+pub run-encodes : {n : ℕ} (s : List ℕ) → Bytes s → Row n s → Faithful (records s) → take (runSize s) s ≡ encode (row 1 s)
 unfolding runSize
 run-encodes s b w f =
     let e : s ≡ encode (row 1 s) ++ encode (dropI 1 (decode s)) = sym (encode-decode s b (w .even) (w .complete) f) ∙ encode-split 1 (decode s) in

@@ -8,7 +8,7 @@ use lib.ListN.{length, take, drop, length-drop}
 use lib.Seq.{drop-drop, take-all}
 use Rattle.particle.specs.declared.Record.{Record}
 use Rattle.particle.specs.Record.{recordSize, recordAt}
-use Rattle.particle.specs.Tree.{Head, Items, none, item, Particle, takeI, dropI, countI, sizeI, headOf, build, records, decode, firstOf, tree}
+use Rattle.particle.specs.Tree.{Head, Items, none, item, Particle, single, takeI, dropI, countI, sizeI, headOf, build, records, decode, firstOf, tree}
 use Rattle.particle.specs.Rows.{Complete, Row, row, runSize, itemsPart, laterPart}
 use Rattle.particle.proofs.Records.{records-cons, records-drop, length-records}
 use Rattle.particle.proofs.Trees.{countI-drop, countI-le, sizeI-build, sizeI-split, build-drop, complete-drop}
@@ -25,6 +25,10 @@ row-le l w = record { even = w .even; complete = w .complete; enough = omega (ar
 pub some-bytes : {n : ℕ} {t : List ℕ} → Row (suc n) t → recordSize ≤ length t
 unfolding decode
 some-bytes {n} {t} w = omega (arith, w .enough, countI-le (build (records t)), sizeI-build (records t), length-records t)
+
+pub run-is : (t : List ℕ) → runSize t ≡ recordSize * sizeI (row 1 t)
+unfolding runSize
+run-is t = refl
 
 pub run-within : (t : List ℕ) → runSize t ≤ length t
 unfolding runSize decode
@@ -73,3 +77,8 @@ module _ {n : ℕ} {t : List ℕ} (w : Row (suc n) t) where
 
   pub later-shorter : length (laterPart t) < length t
   later-shorter = omega (arith, run-some, run-within t, length-drop (runSize t) t)
+
+-- the first tree alone
+pub row-one : {t : List ℕ} → Row 1 t → row 1 t ≡ single (tree t)
+unfolding takeI
+row-one w = row-is w

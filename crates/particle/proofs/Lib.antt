@@ -1,10 +1,12 @@
 pub mod Records
+pub mod Store
 pub mod Trees
 pub mod Run
 pub mod Laws
 pub mod ItemWalk
 pub mod RoundTrip
 pub mod ItemEncodes
+pub mod EncodeParts
 pub mod Heads
 pub mod Folds
 pub mod Every

@@ -3,3 +3,4 @@ pub mod Record
 pub mod Tree
 pub mod Rows
 pub mod Encode
+pub mod Write

@@ -1,13 +1,15 @@
 // Particle trees as records in preorder: the layout of a record, occurrence pairs, and the run of records that a subtree is.
 ghost use mathlib.Core.Path.{_≡_};
-ghost use Prim.Native.Nat.{_+_, _≤_, _<_};
+ghost use Prim.Native.Nat.{_+_, _%_, _≤_, _<_};
 ghost use lib.ListN.{length, drop};
+ghost use lib.Seq.{sets};
 ghost use Rattle.particle.specs.Occurs.{rangeOk};
-ghost use Rattle.particle.specs.Record.{recordSize, recordAt, word, rangeOf};
+ghost use Rattle.particle.specs.Record.{recordSize, recordAt, word, recordBytes, wordBytes, rangeOf};
+ghost use Rattle.particle.specs.Write.{overwrite};
 ghost use Rattle.particle.specs.Tree.{records};
 ghost use Rattle.particle.specs.Rows.{Row, itemsPart, laterPart, runSize, itemStart, itemRun, ItemAt, PartOf};
 
-// The length of a record in bytes. With the reading functions below, this file alone knows the layout.
+// The length of a record in bytes. With the reading and writing functions below, this file alone knows the layout.
 pub const RECORD_SIZE: usize = 12;
 
 // A tree has at most so many records.
@@ -72,6 +74,36 @@ pub fn record_at(t: &[u8]) -> Record
         min: read_u32(t, 4),
         max: read_u32(t, 8),
     }
+}
+
+fn low_byte(x: u32) -> u8
+    ensures { λ r. ⌜ r ≡ x % 256 ⌝ }
+{
+    (x % 256) as u8
+}
+
+// The four bytes of x at `at`, the lowest first.
+fn write_u32(out: &mut [u8], at: usize, x: u32)
+    requires { ⌜ at + 4 ≤ length (now out) ⌝ }
+    ensures { λ _. ⌜ now (out .exit) ≡ sets (now (out .entry)) at (wordBytes x) ⌝ }
+{
+    out[at] = low_byte(x);
+    out[at + 1] = low_byte(x / 256);
+    out[at + 2] = low_byte(x / 65536);
+    out[at + 3] = (x / 16777216) as u8;
+}
+
+// The record r at `at`.
+pub fn write_record(out: &mut [u8], at: usize, r: Record)
+    requires { ⌜ at + recordSize ≤ length (now out) ⌝ }
+    ensures { λ _. ⌜ now (out .exit) ≡ overwrite at (recordBytes r) (now (out .entry)) ⌝ }
+{
+    out[at] = r.kind;
+    out[at + 1] = r.leaf;
+    out[at + 2] = r.count;
+    out[at + 3] = r.unbounded;
+    write_u32(out, at + 4, r.min);
+    write_u32(out, at + 8, r.max);
 }
 
 // The item count of the record at `at`.

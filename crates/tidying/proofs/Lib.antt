@@ -6,3 +6,11 @@ pub mod Emptiness
 pub mod Sizes
 pub mod Examples
 pub mod TidyTrees
+pub mod KindTests
+pub mod LaidTrees
+pub mod KeepStep
+pub mod CloseStep
+pub mod ItemsStep
+pub mod TreeStep
+pub mod CopyStep
+pub mod WholeStep

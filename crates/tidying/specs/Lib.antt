@@ -1,3 +1,4 @@
 pub mod Tidy
 pub mod Depth
 pub mod TidyTree
+pub mod Laid

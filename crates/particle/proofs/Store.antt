@@ -1,0 +1,32 @@
+-- Bytes stored one by one are the bytes of a number or a record, written over others. Assumes nothing.
+use mathlib.Core.Path.{_≡_, _∙_}
+use mathlib.Core.List.{List, [], _∷_, _++_, append-assoc}
+use Prim.Native.Nat.{ℕ, _+_, _≤_}
+use native.Mathlib.Numerals.{towards-suc}
+use lib.ListN.{length, take, drop, set}
+use lib.Seq.{sets, sets-eq, drop-at, length-take-le}
+use Rattle.particle.specs.declared.Record.{Record}
+use Rattle.particle.specs.Record.{recordSize, recordAt, wordBytes, recordBytes}
+use Rattle.particle.specs.Write.{overwrite}
+use Rattle.particle.proofs.RoundTrip.{record-bytes}
+
+-- four bytes, as `write_u32` stores them
+pub four-stored : (l : List ℕ) (at a b c d : ℕ) → set (set (set (set l at a) (at + 1) b) (at + 2) c) (at + 3) d ≡ sets l at (a ∷ b ∷ c ∷ d ∷ [])
+four-stored l at a b c d = simp towards-suc
+
+-- a record, as `write_record` stores it
+pub record-stored : (l : List ℕ) (at : ℕ) (r : Record) → at + recordSize ≤ length l
+    → sets (sets (set (set (set (set l at (r .kind)) (at + 1) (r .leaf)) (at + 2) (r .count)) (at + 3) (r .unbounded)) (at + 4) (wordBytes (r .min))) (at + 8) (wordBytes (r .max)) ≡ overwrite at (recordBytes r) l
+unfolding overwrite
+record-stored l at r h =
+    let e : sets l at (recordBytes r) ≡ overwrite at (recordBytes r) l = sets-eq (recordBytes r) l at h ∙ append-assoc (take at l) (recordBytes r) (drop (at + recordSize) l) in
+    simp towards-suc e
+
+-- from where they were written, the bytes and what follows them
+pub from-written : (at : ℕ) (bytes l : List ℕ) → at ≤ length l → drop at (overwrite at bytes l) ≡ bytes ++ drop (at + length bytes) l
+unfolding overwrite
+from-written at bytes l h = drop-at (take at l) (bytes ++ drop (at + length bytes) l) at (length-take-le at l h)
+
+-- a record that was written is read back
+pub read-back : (at : ℕ) (r : Record) (l : List ℕ) → at ≤ length l → recordAt (drop at (overwrite at (recordBytes r) l)) ≡ r
+read-back at r l h = rw (from-written at (recordBytes r) l h) (record-bytes r (drop (at + recordSize) l))

@@ -1,0 +1,109 @@
+-- A group closed over the items that it keeps: one item left takes its place or its pair, or its record is written before them. Assumes nothing.
+use mathlib.Core.Path.{_≡_, refl, ap, sym, _∙_}
+use mathlib.Core.Bool.{true, false}
+use mathlib.Core.List.{List}
+use Prim.Native.Nat.{ℕ, _+_, _-_, _≤_}
+use native.Mathlib.Omega.{arith}
+use lib.ListN.{length, drop}
+use Rattle.particle.specs.declared.Record.{Record}
+use Rattle.particle.specs.Occurs.{isOnce}
+use Rattle.particle.specs.Record.{recordSize, recordAt, recordBytes, rangeOf}
+use Rattle.particle.specs.Tree.{Head, choice, Items, none, item, Particle, single, pairOf, countI, headOf}
+use Rattle.particle.specs.Encode.{recordOf}
+use Rattle.particle.specs.Write.{overwrite}
+use Rattle.particle.proofs.Heads.{pair-record}
+use Rattle.particle.proofs.RoundTrip.{head-record, then-none}
+use Rattle.tidying.specs.declared.Kept.{Kept}
+use Rattle.tidying.specs.Tidy.{takesPair, lone, closed}
+use Rattle.tidying.specs.Laid.{Laid, Keeps}
+use Rattle.tidying.proofs.Steps.{takes-cases}
+use Rattle.tidying.proofs.LaidTrees.{laid-long, laid-record, laid-open, laid-write}
+
+-- the one tree of a row
+record One (x : Items) : Type 0 where
+  pub head : Head
+  pub items : Items
+  pub is : x ≡ item head items none
+
+one-of : (x : Items) → countI x ≡ 1 → One x
+unfolding countI
+one-of none e = absurd (omega arith)
+one-of (item h k none) e = record { head = h; items = k; is = refl }
+one-of (item h k (item h′ k′ r)) e = absurd (omega arith)
+
+closed-many : (g : Head) (x : Items) → (countI x ≡ 1 → ⊥) → closed g x ≡ record { head = g; items = x }
+unfolding countI
+closed-many g none n = refl
+closed-many g (item h k none) n = absurd (n refl)
+closed-many g (item h k (item h′ k′ r)) n = refl
+
+-- g with another count
+abbrev counted : Record → ℕ → Record
+counted g n = record { kind = g .kind; leaf = g .leaf; count = n; unbounded = g .unbounded; min = g .min; max = g .max }
+
+-- h with the pair of g
+abbrev paired : Record → Record → Record
+paired h g = record { kind = h .kind; leaf = h .leaf; count = h .count; unbounded = g .unbounded; min = g .min; max = g .max }
+
+-- an item that takes a pair is a choice
+is-choice : (g h : Head) → takesPair g h ≡ true → h ≡ choice (pairOf h)
+is-choice = takes-cases (λ (g h : Head). h ≡ choice (pairOf h)) (λ q p e. refl)
+
+module _ (g : Record) (f : recordOf (headOf g) (g .count) ≡ g) (kept : Kept) (out before : List ℕ) (end : ℕ) (x : Items) (a : Keeps before out kept end x) where
+  -- what the group becomes is laid from s on
+  abbrev Closed : (after : List ℕ) (s : ℕ) → Type 0
+  Closed after s = Laid before after s end (single (closed (headOf g) x))
+
+  into : {after : List ℕ} {s : ℕ} (p : Particle) → closed (headOf g) x ≡ p → Laid before after s end (single p) → Closed after s
+  into p e l = rw e l
+
+  -- the group's record is written before the items
+  abbrev Headed : (after : List ℕ) → Type 0
+  Headed after = after ≡ overwrite (kept .start - recordSize) (recordBytes (counted g (kept .count))) out
+
+  over : {after : List ℕ} → recordSize ≤ kept .start → kept .start ≤ length out → Headed after → Laid before after (kept .start - recordSize) end (item (headOf g) x none)
+  over r w e =
+      let s : kept .start - recordSize + recordSize ≡ kept .start = omega arith in
+      let c : counted g (kept .count) ≡ recordOf (headOf g) (countI x) = ap (λ (q : Record). counted q (kept .count)) (sym f) ∙ ap (recordOf (headOf g)) (a .count) in
+      laid-write (headOf g) x none (rw (s, then-none x) (a .laid)) (omega arith) (e ∙ ap (λ (q : Record). overwrite (kept .start - recordSize) (recordBytes q) out) c)
+
+  pub many : {after : List ℕ} → (kept .count ≡ 1 → ⊥) → recordSize ≤ kept .start → kept .start ≤ length out → Headed after → Closed after (kept .start - recordSize)
+  many n r w e = into (record { head = headOf g; items = x }) (closed-many (headOf g) x (λ z. n (a .count ∙ z))) (over r w e)
+
+  module _ (o : kept .count ≡ 1) where
+    one : One x
+    one = one-of x (sym (a .count) ∙ o)
+
+    alone : Laid before out (kept .start) end (item (one .head) (one .items) none)
+    alone = rw (one .is) at (a .laid)
+
+    closed-is : closed (headOf g) x ≡ closed (headOf g) (item (one .head) (one .items) none)
+    closed-is = ap (closed (headOf g)) (one .is)
+
+    pub takes-place : isOnce (rangeOf g) ≡ true → Closed out (kept .start)
+    takes-place u =
+        let u′ : isOnce (pairOf (headOf g)) ≡ true = ap isOnce (pair-record g) ∙ u in
+        into (record { head = one .head; items = one .items }) (closed-is ∙ rw (u′, closed)) alone
+
+    module _ (u : isOnce (rangeOf g) ≡ false) (h : Record) (eh : h ≡ recordAt (drop (kept .start) out)) where
+      u′ : isOnce (pairOf (headOf g)) ≡ false
+      u′ = ap isOnce (pair-record g) ∙ u
+
+      h-is : h ≡ recordOf (one .head) (countI (one .items))
+      h-is = eh ∙ laid-record alone
+
+      head-is : headOf h ≡ one .head
+      head-is = ap headOf h-is ∙ head-record (one .head) (countI (one .items))
+
+      pub takes-pair : {after : List ℕ} → takesPair (headOf g) (headOf h) ≡ true → after ≡ overwrite (kept .start) (recordBytes (paired h g)) out → Closed after (kept .start)
+      takes-pair t e =
+          let t′ : takesPair (headOf g) (one .head) ≡ true = ap (takesPair (headOf g)) (sym head-is) ∙ t in
+          let h-is′ : h ≡ recordOf (choice (pairOf (one .head))) (countI (one .items)) = h-is ∙ ap (λ (q : Head). recordOf q (countI (one .items))) (is-choice (headOf g) (one .head) t′) in
+          let c : paired h g ≡ recordOf (choice (pairOf (headOf g))) (countI (one .items)) = ap (λ (q : Record). paired q g) h-is′ ∙ ap (λ (q : Record). paired (recordOf (choice (pairOf (one .head))) (countI (one .items))) q) (sym f) in
+          into (record { head = choice (pairOf (headOf g)); items = one .items }) (closed-is ∙ rw (u′, closed, t′, lone))
+          (laid-write (choice (pairOf (headOf g))) (one .items) none (laid-open alone) (omega (arith, laid-long alone)) (e ∙ ap (λ (q : Record). overwrite (kept .start) (recordBytes q) out) c))
+
+      pub stays : {after : List ℕ} → takesPair (headOf g) (headOf h) ≡ false → recordSize ≤ kept .start → kept .start ≤ length out → Headed after → Closed after (kept .start - recordSize)
+      stays t r w e =
+          let t′ : takesPair (headOf g) (one .head) ≡ false = ap (takesPair (headOf g)) (sym head-is) ∙ t in
+          into (record { head = headOf g; items = x }) (closed-is ∙ rw (u′, closed, t′, lone) (ap (λ (y : Items). record { head = headOf g; items = y }) (sym (one .is)))) (over r w e)
