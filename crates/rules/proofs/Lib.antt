@@ -1,0 +1,12 @@
+pub mod Settles
+pub mod RuleSettles
+pub mod Unfolds
+pub mod Filling
+pub mod Passing
+pub mod SoundElements
+pub mod SoundWalk
+pub mod Sound
+pub mod Inclusion
+pub mod UnknownSeen
+pub mod Examples
+pub mod PremisesNeeded
