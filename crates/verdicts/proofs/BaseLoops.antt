@@ -1,0 +1,91 @@
+-- What the two loops over base items keep: i items are passed, and what is left decides. Assumes nothing.
+use mathlib.Core.Bool.{Bool, true, false, _&&_, not}
+use mathlib.Core.List.{List, _∷_, _++_, append-assoc}
+use mathlib.Core.Logic.{_⊎_}
+use mathlib.Core.Path.{_≡_, refl, sym, _∙_}
+use Prim.Native.Nat.{ℕ, _+_, _-_, _≤_, _<_}
+use native.Mathlib.Numerals.{add-one}
+use native.Mathlib.Omega.{arith}
+use lib.ListN.{length, take, drop, getD, set}
+use lib.Seq.{drop-cons, take-suc, set-split}
+use Rattle.particle.specs.declared.Occurs.{Occurs}
+use Rattle.particle.specs.declared.Record.{Record}
+use Rattle.particle.specs.Record.{recordAt, rangeOf}
+use Rattle.particle.specs.Tree.{Items, headFrom, headOf, pairOf}
+use Rattle.particle.specs.Rows.{Row, row, laterPart}
+use Rattle.rules.specs.Verdicts.{Leaves, passes, fails}
+use Rattle.rules.specs.Walk.{takeNamed, untaken}
+use Rattle.verdicts.specs.declared.unordered.Taken.{Taken}
+use Rattle.verdicts.specs.declared.unordered.Taken.the-variants.{Nothing, Element}
+use Rattle.verdicts.specs.Taken.{unmatched, hasName}
+use Rattle.verdicts.proofs.ByKind.{any-kind}
+use Rattle.verdicts.proofs.Rest.{Rest, begin, all-passed, row-here, next}
+use Rattle.verdicts.proofs.Flags.{unmatched-none, Answers, passed-by, taken-first, untaken-past, untaken-missing}
+
+-- the flag at i and those after it
+flag-here : (fs : List Bool) (i : ℕ) → i < length fs → drop i fs ≡ getD fs i false ∷ drop (i + 1) fs
+flag-here fs i l = rw (add-one i) (drop-cons fs i false l)
+
+pair-of : (k l : ℕ) (p : Occurs) → pairOf (headFrom k l p) ≡ p
+pair-of k l p = any-kind (λ h. pairOf h ≡ p) l p refl refl refl refl refl k
+
+-- the first bn trees of bs, with a flag for each
+module _ (bs : List ℕ) (bn : ℕ) (fs : List Bool) where
+  -- `take_named`: whatever answers what is left answers the whole row
+  module _ (L : Leaves) (name : ℕ) where
+    abbrev Searched : (i : ℕ) (x : Items) → Type 0
+    Searched i x = (e : List Bool) (t : Taken) → Answers L name x (drop i fs) e t → Answers L name (row bn bs) fs (take i fs ++ e) t
+
+    pub record Looking (rest : List ℕ) (i : ℕ) : Type 0 where
+      pub at : Rest bn i rest
+      pub searched : Searched i (row (bn - i) rest)
+
+    pub look : Row bn bs → Looking bs 0
+    look w =
+        let z : bn - 0 ≡ bn = omega arith in
+        record { at = begin w; searched = λ e t a. rw z at a }
+
+    -- an item is left, and r is its record; it is untaken and has the name, or not
+    module _ {rest : List ℕ} {i : ℕ} (g : Looking rest i) (l : i < bn) (b : bn ≤ length fs) {r : Record} (q : r ≡ recordAt rest)
+        {free : Bool} (u : free ≡ (not (getD fs i false) && hasName L name (headOf r))) where
+      here : i < length fs
+      here = omega arith
+
+      pub look-on : free ≡ false → {s : List ℕ} → s ≡ laterPart rest → Looking s (i + 1)
+      look-on n {s} p = record { at = next (g .at) l p; searched = passed }
+        where
+          passed : Searched (i + 1) (row (bn - (i + 1)) s)
+          passed e t a =
+              let f = getD fs i false in
+              let d : take (i + 1) fs ++ e ≡ take i fs ++ (f ∷ e) = rw (add-one i, take-suc fs i false here, append-assoc) in
+              rw d (g .searched (f ∷ e) t (rw (row-here (g .at) l p q, flag-here fs i here) (passed-by L name _ _ _ f _ e t (sym u ∙ n) a)))
+
+      pub found-here : free ≡ true → Answers L name (row bn bs) fs (set fs i true) (Element (r .leaf) (rangeOf r))
+      found-here n =
+          rw (set-split fs i true here, ← add-one i)
+          (g .searched (true ∷ drop (i + 1) fs) (Element (r .leaf) (rangeOf r)) (rw (row-here (g .at) l refl q, flag-here fs i here) (taken-first L name (r .kind) _ _ _ _ (getD fs i false) _ (sym u ∙ n))))
+
+    pub found-none : {rest : List ℕ} {i : ℕ} → Looking rest i → bn ≤ i → Answers L name (row bn bs) fs fs Nothing
+    unfolding takeNamed
+    found-none {rest} {i} g l = g .searched (drop i fs) Nothing (rw (all-passed (g .at) l, unmatched-none (drop i fs)))
+
+  -- `missing`: what is left has the same mark at the end
+  pub record Seeking (rest : List ℕ) (i : ℕ) : Type 0 where
+    pub at : Rest bn i rest
+    pub same : untaken (unmatched fs (row bn bs)) ≡ untaken (unmatched (drop i fs) (row (bn - i) rest))
+
+  pub seek : Row bn bs → Seeking bs 0
+  seek w =
+      let z : bn - 0 ≡ bn = omega arith in
+      record { at = begin w; same = rw z }
+
+  module _ {rest : List ℕ} {i : ℕ} (g : Seeking rest i) (l : i < bn) (b : bn ≤ length fs) {r : Record} (q : r ≡ recordAt rest) where
+    pub seek-on : (r .min ≡ 0) ⊎ (getD fs i false ≡ true) → {s : List ℕ} → s ≡ laterPart rest → Seeking s (i + 1)
+    seek-on o p = record { at = next (g .at) l p; same = g .same ∙ rw (row-here (g .at) l p q, flag-here fs i (omega arith)) (untaken-past _ _ _ (getD fs i false) _ (rw (pair-of (r .kind) (r .leaf) (rangeOf r)) o)) }
+
+    pub missing-here : (r .min ≡ 0 → ⊥) → getD fs i false ≡ false → untaken (unmatched fs (row bn bs)) ≡ fails 109
+    missing-here z e = g .same ∙ rw (row-here (g .at) l refl q, flag-here fs i (omega arith)) (untaken-missing _ _ _ (getD fs i false) _ (rw (pair-of (r .kind) (r .leaf) (rangeOf r)) z) e)
+
+  pub none-missing : {rest : List ℕ} {i : ℕ} → Seeking rest i → bn ≤ i → untaken (unmatched fs (row bn bs)) ≡ passes
+  unfolding untaken
+  none-missing {rest} {i} g l = g .same ∙ rw (all-passed (g .at) l, unmatched-none (drop i fs))

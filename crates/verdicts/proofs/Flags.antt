@@ -1,0 +1,84 @@
+-- Base items by flags: taking the first untaken one of a name, and those left at the end, item by item. Assumes nothing.
+use mathlib.Core.Bool.{Bool, true, false, _&&_, not, true≢false}
+use mathlib.Core.List.{List, [], _∷_}
+use mathlib.Core.Logic.{_⊎_, inl, inr}
+use mathlib.Core.Path.{_≡_, refl, ap, sym, _∙_}
+use Prim.Native.Nat.{ℕ, zero, suc}
+use borrow.Author.Tests.{eq-eqb, ne-eqb}
+use lib.Dec.{eqb}
+use lib.ListN.{replicate}
+use Rattle.particle.specs.declared.Occurs.{Occurs}
+use Rattle.particle.specs.Tree.{Head, element, wildcard, sequence, choice, all, Items, none, item, headFrom, pairOf}
+use Rattle.rules.specs.Verdicts.{Leaves, fails}
+use Rattle.rules.specs.Walk.{found, behind, takeNamed, untaken}
+use Rattle.verdicts.specs.declared.unordered.Taken.{Taken}
+use Rattle.verdicts.specs.declared.unordered.Taken.the-variants.{Nothing, Element}
+use Rattle.verdicts.specs.Taken.{unmatched, hasName, foundOf}
+use Rattle.verdicts.proofs.ByKind.{any-kind, other-kind}
+
+pub unmatched-none : (fs : List Bool) → unmatched fs none ≡ none
+unfolding unmatched
+unmatched-none [] = refl
+unmatched-none (f ∷ fs) = refl
+
+-- at first nothing is taken
+pub none-taken : (n : ℕ) (x : Items) → unmatched (replicate n false) x ≡ x
+unfolding unmatched
+none-taken zero x = refl
+none-taken (suc n) none = refl
+none-taken (suc n) (item h k r) = ap (item h k) (none-taken n r)
+
+module _ (L : Leaves) (name : ℕ) where
+  -- the name of a record's head, by its kind number
+  pub element-named : (k l : ℕ) (p : Occurs) → k ≡ 0 → hasName L name (headFrom k l p) ≡ eqb (L .localName l) name
+  element-named k l p e = rw e
+
+  pub other-unnamed : (k l : ℕ) (p : Occurs) → (k ≡ 0 → ⊥) → hasName L name (headFrom k l p) ≡ false
+  other-unnamed k l p z = other-kind (λ h. hasName L name h ≡ false) l p refl refl refl refl k z
+
+  -- the first item has the name or not
+  unnamed : (h : Head) (k x : Items) → hasName L name h ≡ false → takeNamed L name (item h k x) ≡ behind h k (takeNamed L name x)
+  unfolding takeNamed
+  unnamed (element m q) k x e = rw (e, takeNamed)
+  unnamed (wildcard m q) k x e = refl
+  unnamed (sequence q) k x e = refl
+  unnamed (choice q) k x e = refl
+  unnamed (all q) k x e = refl
+
+  named : (k l : ℕ) (p : Occurs) (y x : Items) → hasName L name (headFrom k l p) ≡ true → takeNamed L name (item (headFrom k l p) y x) ≡ found l p x
+  unfolding takeNamed
+  named k l p y x = any-kind (λ h. hasName L name h ≡ true → takeNamed L name (item h y x) ≡ found l p x) l p (λ e. rw (e, takeNamed)) never never never never k
+    where
+      never : {A : Type 0} → false ≡ true → A
+      never e = absurd (true≢false (sym e))
+
+  -- among the items x, r is the answer where the flags are fs, and then they are e
+  abbrev pub Answers : Items → (fs e : List Bool) → Taken → Type 0
+  Answers x fs e r = foundOf r (unmatched e x) ≡ takeNamed L name (unmatched fs x)
+
+  -- an item in front: it is passed, or it is the one
+  pub passed-by : (h : Head) (k x : Items) (f : Bool) (fs e : List Bool) (r : Taken) → (not f && hasName L name h) ≡ false → Answers x fs e r → Answers (item h k x) (f ∷ fs) (f ∷ e) r
+  unfolding unmatched
+  passed-by h k x true fs e r n a = a
+  passed-by h k x false fs e r n a = in-front r ∙ (ap (behind h k) a ∙ sym (unnamed h k (unmatched fs x) n))
+    where
+      in-front : (r : Taken) → foundOf r (item h k (unmatched e x)) ≡ behind h k (foundOf r (unmatched e x))
+      in-front Nothing = refl
+      in-front (Element m q) = refl
+
+  pub taken-first : (k l : ℕ) (p : Occurs) (y x : Items) (f : Bool) (fs : List Bool) → (not f && hasName L name (headFrom k l p)) ≡ true → Answers (item (headFrom k l p) y x) (f ∷ fs) (true ∷ fs) (Element l p)
+  unfolding unmatched
+  taken-first k l p y x true fs e = absurd (true≢false (sym e))
+  taken-first k l p y x false fs e = sym (named k l p y (unmatched fs x) e)
+
+-- at the end, an item in front that is taken, or of minimum 0, does not matter; another one is missing
+pub untaken-past : (h : Head) (k x : Items) (f : Bool) (fs : List Bool) → (pairOf h .min ≡ 0) ⊎ (f ≡ true) → untaken (unmatched (f ∷ fs) (item h k x)) ≡ untaken (unmatched fs x)
+unfolding unmatched untaken
+untaken-past h k x true fs o = refl
+untaken-past h k x false fs (inl z) = rw (eq-eqb _ _ z, untaken)
+untaken-past h k x false fs (inr e) = absurd (true≢false (sym e))
+
+pub untaken-missing : (h : Head) (k x : Items) (f : Bool) (fs : List Bool) → (pairOf h .min ≡ 0 → ⊥) → f ≡ false → untaken (unmatched (f ∷ fs) (item h k x)) ≡ fails 109
+unfolding unmatched untaken
+untaken-missing h k x true fs z e = absurd (true≢false e)
+untaken-missing h k x false fs z e = rw (ne-eqb _ _ z, untaken)

@@ -1,0 +1,80 @@
+// Verdicts: the reasons, what the tables say of two leaves, the rules that ask for no items' marks, and base elements taken by name.
+mod leaves;
+mod unordered;
+
+ghost use mathlib.Core.Path.{_≡_};
+ghost use Rattle.rules.specs.Combine.{combineReadings};
+ghost use Rattle.verdicts.specs.Reasons.{markOf, definiteOf};
+pub use leaves::element_restrict;
+pub use leaves::element_wildcard;
+pub use leaves::wildcard_wildcard;
+pub use unordered::recurse_unordered;
+
+// A leaf's length in bytes: kind, process contents, local name number (16 bits).
+const LEAF_SIZE: usize = 4;
+
+// Why a restriction fails. Document 01's number of each: specs/Reasons.antt.
+pub enum Reason {
+    ElementWildcardRange,
+    WildcardElement,
+    WildcardRange,
+    WeakerProcessContents,
+    SequenceRange,
+    ChoiceRange,
+    AllRange,
+    NotInAll,
+    MissingFromAll,
+    SequenceRequired,
+    NoAlternative,
+    ChoiceRequired,
+    TotalRange,
+    WildcardGroup,
+    GroupKind,
+    SequenceTotal,
+    MemberAlternative,
+    SequenceAllRange,
+    MemberNotElement,
+    NotAllowed,
+    RequiredMissing,
+    MinBelow,
+    MaxUnbounded,
+    MaxAbove,
+    // A reason that the paper sets: 140 to 152.
+    Set(u8),
+}
+
+// Outcome of one comparison.
+pub enum Verdict {
+    Ok,
+    Unknown,
+    Violation(Reason),
+}
+
+// A failure after something undecided is undecided.
+pub fn definite(v: Verdict, seen: bool) -> Verdict
+    ensures { λ r. ⌜ markOf r ≡ definiteOf seen (markOf v) ⌝ }
+{
+    if seen {
+        return Verdict::Unknown;
+    }
+    v
+}
+
+// Either passing passes; two failures give the first's reason; anything else is undecided.
+pub fn combine_readings(a: Verdict, b: Verdict) -> Verdict
+    ensures { λ r. ⌜ markOf r ≡ combineReadings (markOf a) (markOf b) ⌝ }
+{
+    match a {
+        Verdict::Ok => Verdict::Ok,
+        Verdict::Unknown => match b {
+            Verdict::Ok => Verdict::Ok,
+            Verdict::Unknown => Verdict::Unknown,
+            Verdict::Violation(_) => Verdict::Unknown,
+        },
+        Verdict::Violation(r) => match b {
+            Verdict::Ok => Verdict::Ok,
+            Verdict::Unknown => Verdict::Unknown,
+            Verdict::Violation(_) => Verdict::Violation(r),
+        },
+    }
+}
