@@ -4,7 +4,7 @@ mod unordered;
 
 ghost use mathlib.Core.Path.{_≡_};
 ghost use Rattle.rules.specs.Combine.{combineReadings};
-ghost use Rattle.verdicts.specs.Reasons.{markOf, definiteOf};
+ghost use Rattle.verdicts.specs.Reasons.{reasonNumber, markOf, definiteOf};
 pub use leaves::element_restrict;
 pub use leaves::element_wildcard;
 pub use leaves::wildcard_wildcard;
@@ -76,5 +76,38 @@ pub fn combine_readings(a: Verdict, b: Verdict) -> Verdict
             Verdict::Unknown => Verdict::Unknown,
             Verdict::Violation(_) => Verdict::Violation(r),
         },
+    }
+}
+
+// Document 01's number of a reason.
+pub fn reason_number(r: Reason) -> u32
+    ensures { λ n. ⌜ n ≡ reasonNumber r ⌝ }
+{
+    match r {
+        Reason::ElementWildcardRange => 101,
+        Reason::WildcardElement => 102,
+        Reason::WildcardRange => 103,
+        Reason::WeakerProcessContents => 104,
+        Reason::SequenceRange => 105,
+        Reason::ChoiceRange => 106,
+        Reason::AllRange => 107,
+        Reason::NotInAll => 108,
+        Reason::MissingFromAll => 109,
+        Reason::SequenceRequired => 110,
+        Reason::NoAlternative => 111,
+        Reason::ChoiceRequired => 112,
+        Reason::TotalRange => 113,
+        Reason::WildcardGroup => 114,
+        Reason::GroupKind => 115,
+        Reason::SequenceTotal => 116,
+        Reason::MemberAlternative => 117,
+        Reason::SequenceAllRange => 118,
+        Reason::MemberNotElement => 119,
+        Reason::NotAllowed => 120,
+        Reason::RequiredMissing => 121,
+        Reason::MinBelow => 122,
+        Reason::MaxUnbounded => 123,
+        Reason::MaxAbove => 124,
+        Reason::Set(n) => n as u32,
     }
 }
