@@ -4,7 +4,7 @@ use mathlib.Core.List.{List, [], _∷_, _++_, append-assoc, append-nil}
 use Prim.Native.Nat.{ℕ, zero, suc, _+_, _*_, _-_, _/_, _%_, _≤_, _<_}
 use native.Mathlib.Nat.{suc-add, add-suc, add-zero}
 use native.Mathlib.Omega.{arith}
-use lib.ListN.{length, drop, getD, length-append, length-drop}
+use lib.ListN.{length, take, drop, getD, length-append, length-drop}
 use lib.Seq.{drop-cons}
 use Rattle.particle.specs.declared.MaxOccurs.{MaxOccurs}
 use Rattle.particle.specs.declared.MaxOccurs.the-variants.{Bounded, Unbounded}
@@ -80,11 +80,11 @@ records-joined [] = records-short [] (omega arith)
 records-joined (r ∷ rs) = records-cons (recordBytes r ++ joined rs) (omega arith) ∙ (ap (λ (x : Record). x ∷ records (joined rs)) (record-bytes r (joined rs)) ∙ ap (λ (xs : List Record). r ∷ xs) (records-joined rs))
 
 -- n bytes of t from the i-th on
-from : ℕ → ℕ → List ℕ → List ℕ
+unfoldable pub from : ℕ → ℕ → List ℕ → List ℕ
 from zero i t = []
 from (suc n) i t = getD t i 0 ∷ from n (suc i) t
 
-from-drop : (n i : ℕ) (t : List ℕ) → i + n ≤ length t → from n i t ++ drop (i + n) t ≡ drop i t
+pub from-drop : (n i : ℕ) (t : List ℕ) → i + n ≤ length t → from n i t ++ drop (i + n) t ≡ drop i t
 unfolding from
 from-drop zero i t h = rw (add-zero i)
 from-drop (suc n) i t h =
@@ -93,7 +93,7 @@ from-drop (suc n) i t h =
     rw (e, from-drop n (suc i) t h₁) (sym (drop-cons t i 0 (omega arith)))
 
 -- the bytes of the number that four bytes are
-word-bytes : (a b c d : ℕ) → a < 256 → b < 256 → c < 256 → wordBytes (a + b * 256 + c * 65536 + d * 16777216) ≡ a ∷ b ∷ c ∷ d ∷ []
+pub word-bytes : (a b c d : ℕ) → a < 256 → b < 256 → c < 256 → wordBytes (a + b * 256 + c * 65536 + d * 16777216) ≡ a ∷ b ∷ c ∷ d ∷ []
 word-bytes a b c d ha hb hc =
     let n : ℕ = a + b * 256 + c * 65536 + d * 16777216 in
     let q₁ : n / 256 ≡ b + 256 * (c + 256 * d) = omega arith in
@@ -115,6 +115,12 @@ unfolding Bytes
 bytes-drop zero t b = b
 bytes-drop (suc k) [] b = b
 bytes-drop (suc k) (x ∷ t) b = bytes-drop k t (b .1)
+
+pub bytes-take : (k : ℕ) (t : List ℕ) → Bytes t → Bytes (take k t)
+unfolding Bytes
+bytes-take zero t b = tt
+bytes-take (suc k) [] b = b
+bytes-take (suc k) (x ∷ t) b = (b .0, bytes-take k t (b .1))
 
 first-bytes : (t : List ℕ) → Bytes t → recordSize ≤ length t → recordBytes (recordAt t) ++ drop recordSize t ≡ t
 unfolding from

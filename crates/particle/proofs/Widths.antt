@@ -41,12 +41,12 @@ widths t b = widths-from (length t / recordSize) t b
 
 -- From records to bytes --------------------------------------------------------
 
-bytes-append : (s t : List ℕ) → Bytes s → Bytes t → Bytes (s ++ t)
+pub bytes-append : (s t : List ℕ) → Bytes s → Bytes t → Bytes (s ++ t)
 unfolding Bytes
 bytes-append [] t b c = c
 bytes-append (x ∷ s) t b c = (b .0, bytes-append s t (b .1) c)
 
-word-bytes : (n : ℕ) → n < 2 ^ 32 → Bytes (wordBytes n)
+pub word-bytes : (n : ℕ) → n < 2 ^ 32 → Bytes (wordBytes n)
 unfolding Bytes
 word-bytes n l = (omega arith, (omega arith, (omega arith, (omega arith, tt))))
 

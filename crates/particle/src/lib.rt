@@ -54,7 +54,7 @@ fn wide(x: u8) -> u32
 }
 
 // The four bytes at `at`, the lowest first.
-fn read_u32(s: &[u8], at: usize) -> u32
+pub fn read_u32(s: &[u8], at: usize) -> u32
     requires { ⌜ at + 4 ≤ length (now s) ⌝ }
     ensures { λ r. ⌜ r ≡ word (now (s .entry)) at ⌝ }
 {

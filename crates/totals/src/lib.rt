@@ -42,7 +42,7 @@ fn saturating_add(a: u32, b: u32) -> u32
     cap_min((a as u64) + (b as u64))
 }
 
-fn saturating_mul(a: u32, b: u32) -> u32
+pub fn saturating_mul(a: u32, b: u32) -> u32
     ensures { λ r. ⌜ r ≡ capMin (a * b) ⌝ }
 {
     cap_min(product(a, b))
@@ -54,7 +54,7 @@ fn checked_add(a: u32, b: u32) -> MaxOccurs
     cap_max((a as u64) + (b as u64))
 }
 
-fn checked_mul(a: u32, b: u32) -> MaxOccurs
+pub fn checked_mul(a: u32, b: u32) -> MaxOccurs
     ensures { λ r. ⌜ r ≡ capMax (a * b) ⌝ }
 {
     cap_max(product(a, b))

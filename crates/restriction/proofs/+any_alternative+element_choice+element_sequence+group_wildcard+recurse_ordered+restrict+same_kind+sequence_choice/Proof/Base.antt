@@ -1,0 +1,144 @@
+-- The cycle of the rules: the measure of each member, what it is given and what it asks of the others. Assumes nothing.
+use Prim.Native.Nat.{ℕ, _<_}
+use borrow.Fn.Kinds.{In}
+use borrow.Fn.PlainCycle.{Measures, is, falls, and}
+use Rattle.particle.proofs.items.Reads as items-reads
+use Rattle.particle.proofs.later.Reads as later-reads
+use Rattle.particle.proofs.range_ok.Reads as range-ok-reads
+use Rattle.particle.proofs.record_at.Reads as record-at-reads
+use Rattle.restriction.proofs.pairs.base_range.Reads as base-range-reads
+use Rattle.restriction.proofs.pairs.derived_range.Reads as derived-range-reads
+use Rattle.restriction.proofs.pairs.exactly_one.Reads as exactly-one-reads
+use Rattle.restriction.proofs.pairs.kind_of.Reads as kind-of-reads
+use Rattle.restriction.proofs.pairs.times_count.Reads as times-count-reads
+use Rattle.restriction.proofs.rows.group_all.Reads as group-all-reads
+use Rattle.restriction.proofs.rows.left_over.Reads as left-over-reads
+use Rattle.totals.proofs.effective_total_range.Reads as effective-total-range-reads
+use Rattle.totals.proofs.emptiable.Reads as emptiable-reads
+use Rattle.verdicts.proofs.combine_readings.Reads as combine-readings-reads
+use Rattle.verdicts.proofs.definite.Reads as definite-reads
+use Rattle.verdicts.proofs.element_restrict.Reads as element-restrict-reads
+use Rattle.verdicts.proofs.element_wildcard.Reads as element-wildcard-reads
+use Rattle.verdicts.proofs.wildcard_wildcard.Reads as wildcard-wildcard-reads
+use Rattle.restriction.proofs.any_alternative.Reads as any-alternative
+use Rattle.restriction.proofs.any_alternative.Kinds as any-alternative-kinds
+use Rattle.restriction.proofs.+any_alternative+element_choice+element_sequence+group_wildcard+recurse_ordered+restrict+same_kind+sequence_choice.Lts-any_alternative as any-alternative-lts
+use Rattle.restriction.proofs.element_choice.Reads as element-choice
+use Rattle.restriction.proofs.element_choice.Kinds as element-choice-kinds
+use Rattle.restriction.proofs.+any_alternative+element_choice+element_sequence+group_wildcard+recurse_ordered+restrict+same_kind+sequence_choice.Lts-element_choice as element-choice-lts
+use Rattle.restriction.proofs.element_sequence.Reads as element-sequence
+use Rattle.restriction.proofs.element_sequence.Kinds as element-sequence-kinds
+use Rattle.restriction.proofs.+any_alternative+element_choice+element_sequence+group_wildcard+recurse_ordered+restrict+same_kind+sequence_choice.Lts-element_sequence as element-sequence-lts
+use Rattle.restriction.proofs.group_wildcard.Reads as group-wildcard
+use Rattle.restriction.proofs.group_wildcard.Kinds as group-wildcard-kinds
+use Rattle.restriction.proofs.+any_alternative+element_choice+element_sequence+group_wildcard+recurse_ordered+restrict+same_kind+sequence_choice.Lts-group_wildcard as group-wildcard-lts
+use Rattle.restriction.proofs.recurse_ordered.Reads as recurse-ordered
+use Rattle.restriction.proofs.recurse_ordered.Kinds as recurse-ordered-kinds
+use Rattle.restriction.proofs.+any_alternative+element_choice+element_sequence+group_wildcard+recurse_ordered+restrict+same_kind+sequence_choice.Lts-recurse_ordered as recurse-ordered-lts
+use Rattle.restriction.proofs.restrict.Reads as restrict
+use Rattle.restriction.proofs.restrict.Kinds as restrict-kinds
+use Rattle.restriction.proofs.+any_alternative+element_choice+element_sequence+group_wildcard+recurse_ordered+restrict+same_kind+sequence_choice.Lts-restrict as restrict-lts
+use Rattle.restriction.proofs.same_kind.Reads as same-kind
+use Rattle.restriction.proofs.same_kind.Kinds as same-kind-kinds
+use Rattle.restriction.proofs.+any_alternative+element_choice+element_sequence+group_wildcard+recurse_ordered+restrict+same_kind+sequence_choice.Lts-same_kind as same-kind-lts
+use Rattle.restriction.proofs.sequence_choice.Reads as sequence-choice
+use Rattle.restriction.proofs.sequence_choice.Kinds as sequence-choice-kinds
+use Rattle.restriction.proofs.+any_alternative+element_choice+element_sequence+group_wildcard+recurse_ordered+restrict+same_kind+sequence_choice.Lts-sequence_choice as sequence-choice-lts
+use Rattle.restriction.proofs.Parts.{weight}
+
+abbrev pub μ-any-alternative : Measures 4 any-alternative-kinds.ps ℕ
+μ-any-alternative κs a = weight 1 (a .0 .now) (a .1 .1 .0 .now)
+
+abbrev pub μ-element-choice : Measures 4 element-choice-kinds.ps ℕ
+μ-element-choice κs a = weight 3 (a .0 .now) (a .1 .1 .1 .0 .now)
+
+abbrev pub μ-element-sequence : Measures 4 element-sequence-kinds.ps ℕ
+μ-element-sequence κs a = weight 3 (a .0 .now) (a .1 .1 .1 .0 .now)
+
+abbrev pub μ-group-wildcard : Measures 5 group-wildcard-kinds.ps ℕ
+μ-group-wildcard κs a = weight 1 (a .1 .0 .now) (a .1 .1 .1 .0 .now)
+
+abbrev pub μ-recurse-ordered : Measures 4 recurse-ordered-kinds.ps ℕ
+μ-recurse-ordered κs a = weight 1 (a .0 .now) (a .1 .1 .1 .0 .now)
+
+abbrev pub μ-restrict : Measures 4 restrict-kinds.ps ℕ
+μ-restrict κs a = weight 0 (a .0 .now) (a .1 .1 .0 .now)
+
+abbrev pub μ-same-kind : Measures 4 same-kind-kinds.ps ℕ
+μ-same-kind κs a = weight 2 (a .0 .now) (a .1 .1 .1 .1 .0 .now)
+
+abbrev pub μ-sequence-choice : Measures 4 sequence-choice-kinds.ps ℕ
+μ-sequence-choice κs a = weight 2 (a .0 .now) (a .1 .1 .1 .0 .now)
+
+module _ (t : ℕ) where
+  abbrev pub any-alternative-at : In 4 any-alternative-kinds.ps
+  any-alternative-at = and 4 any-alternative-kinds.ps (is 4 any-alternative-kinds.ps μ-any-alternative t) any-alternative.Pre
+
+  abbrev pub any-alternative-below : In 4 any-alternative-kinds.ps
+  any-alternative-below = and 4 any-alternative-kinds.ps (falls 4 any-alternative-kinds.ps _<_ μ-any-alternative t) any-alternative.Pre
+
+  abbrev pub element-choice-at : In 4 element-choice-kinds.ps
+  element-choice-at = and 4 element-choice-kinds.ps (is 4 element-choice-kinds.ps μ-element-choice t) element-choice.Pre
+
+  abbrev pub element-choice-below : In 4 element-choice-kinds.ps
+  element-choice-below = and 4 element-choice-kinds.ps (falls 4 element-choice-kinds.ps _<_ μ-element-choice t) element-choice.Pre
+
+  abbrev pub element-sequence-at : In 4 element-sequence-kinds.ps
+  element-sequence-at = and 4 element-sequence-kinds.ps (is 4 element-sequence-kinds.ps μ-element-sequence t) element-sequence.Pre
+
+  abbrev pub element-sequence-below : In 4 element-sequence-kinds.ps
+  element-sequence-below = and 4 element-sequence-kinds.ps (falls 4 element-sequence-kinds.ps _<_ μ-element-sequence t) element-sequence.Pre
+
+  abbrev pub group-wildcard-at : In 5 group-wildcard-kinds.ps
+  group-wildcard-at = and 5 group-wildcard-kinds.ps (is 5 group-wildcard-kinds.ps μ-group-wildcard t) group-wildcard.Pre
+
+  abbrev pub group-wildcard-below : In 5 group-wildcard-kinds.ps
+  group-wildcard-below = and 5 group-wildcard-kinds.ps (falls 5 group-wildcard-kinds.ps _<_ μ-group-wildcard t) group-wildcard.Pre
+
+  abbrev pub recurse-ordered-at : In 4 recurse-ordered-kinds.ps
+  recurse-ordered-at = and 4 recurse-ordered-kinds.ps (is 4 recurse-ordered-kinds.ps μ-recurse-ordered t) recurse-ordered.Pre
+
+  abbrev pub recurse-ordered-below : In 4 recurse-ordered-kinds.ps
+  recurse-ordered-below = and 4 recurse-ordered-kinds.ps (falls 4 recurse-ordered-kinds.ps _<_ μ-recurse-ordered t) recurse-ordered.Pre
+
+  abbrev pub restrict-at : In 4 restrict-kinds.ps
+  restrict-at = and 4 restrict-kinds.ps (is 4 restrict-kinds.ps μ-restrict t) restrict.Pre
+
+  abbrev pub restrict-below : In 4 restrict-kinds.ps
+  restrict-below = and 4 restrict-kinds.ps (falls 4 restrict-kinds.ps _<_ μ-restrict t) restrict.Pre
+
+  abbrev pub same-kind-at : In 4 same-kind-kinds.ps
+  same-kind-at = and 4 same-kind-kinds.ps (is 4 same-kind-kinds.ps μ-same-kind t) same-kind.Pre
+
+  abbrev pub same-kind-below : In 4 same-kind-kinds.ps
+  same-kind-below = and 4 same-kind-kinds.ps (falls 4 same-kind-kinds.ps _<_ μ-same-kind t) same-kind.Pre
+
+  abbrev pub sequence-choice-at : In 4 sequence-choice-kinds.ps
+  sequence-choice-at = and 4 sequence-choice-kinds.ps (is 4 sequence-choice-kinds.ps μ-sequence-choice t) sequence-choice.Pre
+
+  abbrev pub sequence-choice-below : In 4 sequence-choice-kinds.ps
+  sequence-choice-below = and 4 sequence-choice-kinds.ps (falls 4 sequence-choice-kinds.ps _<_ μ-sequence-choice t) sequence-choice.Pre
+
+  abbrev pub any-alternative-calls : any-alternative-lts.Claims
+  any-alternative-calls = (later-reads.Asked, later-reads.Learnt, restrict-below, restrict.Post, definite-reads.Asked, definite-reads.Learnt)
+
+  abbrev pub element-choice-calls : element-choice-lts.Claims
+  element-choice-calls = (same-kind-below, same-kind.Post, combine-readings-reads.Asked, combine-readings-reads.Learnt, any-alternative-below, any-alternative.Post)
+
+  abbrev pub element-sequence-calls : element-sequence-lts.Claims
+  element-sequence-calls = (same-kind-below, same-kind.Post, combine-readings-reads.Asked, combine-readings-reads.Learnt, recurse-ordered-below, recurse-ordered.Post)
+
+  abbrev pub group-wildcard-calls : group-wildcard-lts.Claims
+  group-wildcard-calls = (effective-total-range-reads.Asked, effective-total-range-reads.Learnt, range-ok-reads.Asked, range-ok-reads.Learnt, later-reads.Asked, later-reads.Learnt, restrict-below, restrict.Post, definite-reads.Asked, definite-reads.Learnt)
+
+  abbrev pub recurse-ordered-calls : recurse-ordered-lts.Claims
+  recurse-ordered-calls = (later-reads.Asked, later-reads.Learnt, restrict-below, restrict.Post, emptiable-reads.Asked, emptiable-reads.Learnt, definite-reads.Asked, definite-reads.Learnt, left-over-reads.Asked, left-over-reads.Learnt)
+
+  abbrev pub restrict-calls : restrict-lts.Claims
+  restrict-calls = (record-at-reads.Asked, record-at-reads.Learnt, derived-range-reads.Asked, derived-range-reads.Learnt, base-range-reads.Asked, base-range-reads.Learnt, items-reads.Asked, items-reads.Learnt, exactly-one-reads.Asked, exactly-one-reads.Learnt, kind-of-reads.Asked, kind-of-reads.Learnt, element-restrict-reads.Asked, element-restrict-reads.Learnt, element-wildcard-reads.Asked, element-wildcard-reads.Learnt, element-sequence-below, element-sequence.Post, element-choice-below, element-choice.Post, wildcard-wildcard-reads.Asked, wildcard-wildcard-reads.Learnt, same-kind-below, same-kind.Post, group-wildcard-below, group-wildcard.Post, sequence-choice-below, sequence-choice.Post, group-all-reads.Asked, group-all-reads.Learnt)
+
+  abbrev pub same-kind-calls : same-kind-lts.Claims
+  same-kind-calls = (range-ok-reads.Asked, range-ok-reads.Learnt, recurse-ordered-below, recurse-ordered.Post)
+
+  abbrev pub sequence-choice-calls : sequence-choice-lts.Claims
+  sequence-choice-calls = (times-count-reads.Asked, times-count-reads.Learnt, range-ok-reads.Asked, range-ok-reads.Learnt, later-reads.Asked, later-reads.Learnt, any-alternative-below, any-alternative.Post, definite-reads.Asked, definite-reads.Learnt)

@@ -1,0 +1,86 @@
+-- `restrict` meets its contract: an arm of the match answers by a clause of the rule, at the two kinds that its key is. Assumes nothing.
+use Prim.Native.Nat.{ℕ}
+use borrow.Author.Needs.{needs}
+use native.Mathlib.Omega.{arith}
+use mathlib.Core.Path.{sym, _∙_}
+use Rattle.particle.proofs.Laws.{some-bytes}
+use Rattle.rules.specs.Rule.{rule}
+use Rattle.restriction.proofs.Arms.{Sides, to-base, to-derived, to-members, to-both, arm, other-arm, element-sequence-arm, element-choice-arm, sequence-element-arm, choice-element-arm, sequences-arm, choices-arm, group-wildcard-arm, sequence-choice-arm}
+use Rattle.restriction.proofs.restrict.Reads as reads
+use Rattle.restriction.proofs.+any_alternative+element_choice+element_sequence+group_wildcard+recurse_ordered+restrict+same_kind+sequence_choice.Lts-restrict as lts
+use Rattle.restriction.proofs.+any_alternative+element_choice+element_sequence+group_wildcard+recurse_ordered+restrict+same_kind+sequence_choice.Proof.Base.{restrict-at, restrict-calls}
+
+module _ (t : ℕ) where
+  -- what has been read of both trees, above the match
+  sides : (c : lts.After-kind-of2 (restrict-calls t) (restrict-at t) reads.Post) →
+      let i = c .before .before .before .before .before in
+      let r = i .before .before .before .before in
+      let a = r .before .before .before .before .before .before .args in
+      Sides (a .leaves .now) (a .tables .now) (a .n) (a .once) (a .any) (a .d .now) (a .b .now)
+      (r .before .record-at .result) (r .record-at2 .result) (i .before .before .before .derived-range .result) (i .before .before .base-range .result)
+      (i .before .items .result .now) (i .items2 .result .now) (c .before .kind-of .result) (c .kind-of2 .result) t
+  sides c =
+      let i = c .before .before .before .before .before in
+      let r = i .before .before .before .before in
+      let w = r .before .before .before .before .before .before .pre in
+      record {
+        derived = record { whole = w .1 .0; first = r .before .record-at .ensures; pair = i .before .before .before .derived-range .ensures; below = i .before .items .ensures; kind = c .before .kind-of .ensures .0; small = c .before .kind-of .ensures .1 };
+        base = record { whole = w .1 .1; first = r .record-at2 .ensures; pair = i .before .before .base-range .ensures; below = i .items2 .ensures; kind = c .kind-of2 .ensures .0; small = c .kind-of2 .ensures .1 };
+        weighs = w .0;
+      }
+
+pub restrict-closed : {M : Type 1} (t : ℕ) → lts.Closed (restrict-calls t) (restrict-at t) reads.Post M
+unfolding rule
+restrict-closed t =
+    lts.spec (restrict-calls t) (restrict-at t) reads.Post
+    (λ c κs. some-bytes (c .before .before .before .before .pre .1 .0))
+    (λ c κs. some-bytes (c .before .before .before .before .before .pre .1 .1))
+    (λ c κs. search needs)
+    (λ c κs. search needs)
+    (λ c κs. c .before .before .before .before .before .before .before .before .pre .1 .0)
+    (λ c κs. c .before .before .before .before .before .before .before .before .before .pre .1 .1)
+    (λ c. search needs)
+    (λ c. search needs)
+    (λ c κs. search needs)
+    (λ c κs. search needs)
+    (λ c. search needs)
+    (λ c κs. search needs)
+    (λ c. search needs)
+    (λ c κs. search needs)
+    (λ c κs. search needs)
+    (λ c κs. to-base (sides t (c .before)))
+    (λ c κs. to-base (sides t (c .before)))
+    (λ c κs. search needs)
+    (λ c κs. to-derived (sides t (c .before)))
+    (λ c κs. to-members (sides t (c .before)))
+    (λ c κs. to-both (sides t (c .before)))
+    (λ c κs. let w = to-both (sides t (c .before)) in (w .0, (w .1 .0, (omega arith, w .1 .1))))
+    (λ c κs. let w = to-both (sides t (c .before)) in (w .1 .0, (w .1 .1, omega arith)))
+    (λ c κs. to-derived (sides t (c .before)))
+    (λ c κs. to-members (sides t (c .before)))
+    (λ c κs. to-both (sides t (c .before)))
+    (λ c κs. to-members (sides t (c .before)))
+    (λ c κs. let w = to-both (sides t (c .before)) in (w .1 .0, (w .1 .1, omega arith)))
+    -- the arms, in the match's order
+    (λ c. c .element-restrict .ensures ∙ sym (arm (sides t (c .before .before)) 0 0 (omega arith) (c .before .match .keys1)))
+    (λ c. c .element-wildcard .ensures ∙ sym (arm (sides t (c .before .before)) 0 1 (omega arith) (c .before .match .keys2)))
+    (λ c. c .element-sequence .ensures ∙ sym (element-sequence-arm (sides t (c .before .before)) (c .before .match .keys3)))
+    (λ c. c .element-choice .ensures ∙ sym (element-choice-arm (sides t (c .before .before)) (c .before .match .keys4)))
+    (λ c. sym (arm (sides t (c .before)) 0 4 (omega arith) (c .match .keys5)))
+    (λ c. sym (arm (sides t (c .before)) 1 0 (omega arith) (c .match .keys6)))
+    (λ c. c .wildcard-wildcard .ensures ∙ sym (arm (sides t (c .before .before)) 1 1 (omega arith) (c .before .match .keys7)))
+    (λ c. sym (arm (sides t (c .before)) 1 2 (omega arith) (c .match .keys8)))
+    (λ c. sym (arm (sides t (c .before)) 1 3 (omega arith) (c .match .keys9)))
+    (λ c. sym (arm (sides t (c .before)) 1 4 (omega arith) (c .match .keys10)))
+    (λ c. let d = c .before .before in c .same-kind .ensures ∙ sym (sequence-element-arm (sides t d) (d .before .before .exactly-one .ensures) (c .before .match .keys11)))
+    (λ c. c .group-wildcard .ensures ∙ sym (group-wildcard-arm (sides t (c .before .before)) 2 (omega arith) (c .before .match .keys12)))
+    (λ c. c .same-kind2 .ensures ∙ sym (sequences-arm (sides t (c .before .before)) (c .before .match .keys13)))
+    (λ c. c .sequence-choice .ensures ∙ sym (sequence-choice-arm (sides t (c .before .before)) (c .before .match .keys14)))
+    (λ c. c .group-all .ensures ∙ sym (arm (sides t (c .before .before)) 2 4 (omega arith) (c .before .match .keys15)))
+    (λ c. let d = c .before .before in c .same-kind3 .ensures ∙ sym (choice-element-arm (sides t d) (d .before .before .exactly-one .ensures) (c .before .match .keys16)))
+    (λ c. c .group-wildcard2 .ensures ∙ sym (group-wildcard-arm (sides t (c .before .before)) 3 (omega arith) (c .before .match .keys17)))
+    (λ c. c .same-kind4 .ensures ∙ sym (choices-arm (sides t (c .before .before)) (c .before .match .keys18)))
+    (λ c. sym (arm (sides t (c .before)) 4 0 (omega arith) (c .match .keys19)))
+    (λ c. c .group-wildcard3 .ensures ∙ sym (group-wildcard-arm (sides t (c .before .before)) 4 (omega arith) (c .before .match .keys20)))
+    (λ c. c .group-all2 .ensures ∙ sym (arm (sides t (c .before .before)) 4 4 (omega arith) (c .before .match .keys21)))
+    (λ c. sym (other-arm (sides t (c .before)) (c .match .rest)))

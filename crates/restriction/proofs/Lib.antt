@@ -1,0 +1,7 @@
+pub mod Parts
+pub mod Members
+pub mod LeftOver
+pub mod OrderedWalk
+pub mod Heads
+pub mod Table
+pub mod Arms

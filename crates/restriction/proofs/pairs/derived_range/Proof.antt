@@ -1,0 +1,24 @@
+-- `restriction::derived_range` meets its contract. Assumes nothing.
+use mathlib.Core.Bool.{true≢false}
+use mathlib.Core.Logic.{⊎-elim}
+use mathlib.Core.Path.{sym, _∙_}
+use borrow.Author.Needs.{needs}
+use Rattle.particle.specs.Record.{rangeOf}
+use Rattle.restriction.proofs.Heads.{once-element, once-kept}
+use Rattle.restriction.proofs.pairs.derived_range.Statement.{statement}
+use Rattle.restriction.proofs.pairs.derived_range.Tie as tie
+
+returns : tie.Need-returns
+returns c =
+    let a = c .before .before .before .before .args in
+    let r = a .r in
+    c .exactly-one .ensures ∙ once-element (r .leaf) (rangeOf r) (a .once) (r .kind) (c .before .before .before .if1 .taken) (c .before .if2 .taken)
+
+returns-2 : tie.Need-returns-2
+returns-2 c =
+    let a = c .before .before .args in
+    let r = a .r in
+    c .range .ensures ∙ once-kept (r .leaf) (rangeOf r) (a .once) (r .kind) (⊎-elim (λ w o. w .2 .left) (λ w o. absurd (true≢false (sym o ∙ w .left))) (c .before .if1 .came))
+
+pub derived-range-spec : {M : Type 1} → statement M
+derived-range-spec = tie.close (tie.spec (λ c κs. search needs) returns (λ c κs. search needs) returns-2)

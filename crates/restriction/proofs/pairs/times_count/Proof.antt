@@ -1,0 +1,21 @@
+-- `restriction::times_count` meets its contract. Assumes nothing.
+use borrow.Author.Needs.{needs}
+use Rattle.restriction.proofs.pairs.times_count.Statement.{statement}
+use Rattle.restriction.proofs.pairs.times_count.Tie as tie
+
+returns : tie.Need-returns
+returns c = rw (c .before .before .saturating-mul .ensures, c .enum-told .given .1)
+
+returns-2 : tie.Need-returns-2
+returns-2 c = rw (c .before .before .before .before .saturating-mul .ensures, c .checked-mul .ensures, c .before .before .pmax .given .1)
+
+pub times-count-spec : {M : Type 1} → statement M
+times-count-spec =
+    tie.close
+    (tie.spec
+    (λ c κs. search needs)
+    (λ c. search needs)
+    (λ c. search needs)
+    (λ c κs. search needs)
+    returns
+    returns-2)

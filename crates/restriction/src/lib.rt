@@ -1,0 +1,335 @@
+// The mark of two tidied trees: `restrict` selects a rule by the two kinds, and the rules ask it for the marks of items.
+// A part of a tree's bytes that starts at a record stands for the trees from there on; where several are meant, a count goes with it.
+mod pairs;
+mod rows;
+
+ghost use mathlib.Core.Path.{_≡_};
+ghost use mathlib.Core.Bool.{true, false};
+ghost use Prim.Native.Nat.{_≤_};
+ghost use lib.Dec.{leb};
+ghost use Rattle.particle.specs.Occurs.{rangeOk};
+ghost use Rattle.particle.specs.Tree.{tree};
+ghost use Rattle.particle.specs.Rows.{Row, row};
+ghost use Rattle.totals.specs.Total.{total};
+ghost use Rattle.rules.specs.Combine.{_orFails_, _andThen_, combineReadings};
+ghost use Rattle.rules.specs.Walk.{recurseOrdered, alternatives, eachMember};
+ghost use Rattle.rules.specs.Rule.{timesCount};
+ghost use Rattle.verdicts.specs.Reasons.{reasonNumber, markOf};
+ghost use Rattle.restriction.specs.Views.{asOnce, eachOnce, asAny, judge, rangeReason};
+use pairs::base_range;
+use pairs::derived_range;
+use pairs::exactly_one;
+use pairs::kind_of;
+use pairs::times_count;
+use particle::Occurs;
+use rows::group_all;
+use rows::left_over;
+use verdicts::Reason;
+use verdicts::Verdict;
+
+// The first tree of d against the first of b. With once, an element of d counts with the pair (1,1); with any, a wildcard of b with (0, unbounded).
+pub fn restrict(
+    d: &[u8],
+    once: bool,
+    b: &[u8],
+    any: bool,
+    leaves: &[u8],
+    tables: &[u8],
+    n: u8,
+) -> Verdict
+    requires { ⌜ Row 1 (now d) ⌝ }
+    requires { ⌜ Row 1 (now b) ⌝ }
+    ensures { λ r. ⌜ markOf r ≡ judge (now (leaves .entry)) (now (tables .entry)) n (asOnce once (tree (now (d .entry)))) (asAny any (tree (now (b .entry)))) ⌝ }
+{
+    let dr = particle::record_at(d);
+    let br = particle::record_at(b);
+    let p = derived_range(dr, once);
+    let q = base_range(br, any);
+    let ds = particle::items(d);
+    let bs = particle::items(b);
+    let dn = dr.count as usize;
+    let bn = br.count as usize;
+    let one = exactly_one();
+    let mark = match 5 * kind_of(dr) + kind_of(br) {
+        0 => verdicts::element_restrict(dr.leaf, p, br.leaf, q, tables, n),
+        1 => verdicts::element_wildcard(dr.leaf, p, br.leaf, q, tables, n),
+        2 => element_sequence(d, once, p, bs, bn, q, leaves, tables, n),
+        3 => element_choice(d, once, p, bs, bn, q, leaves, tables, n),
+        4 => Verdict::Unknown,
+        5 => Verdict::Violation(Reason::WildcardElement),
+        6 => verdicts::wildcard_wildcard(dr.leaf, p, br.leaf, q, leaves, tables, n),
+        7 => Verdict::Violation(Reason::WildcardGroup),
+        8 => Verdict::Violation(Reason::WildcardGroup),
+        9 => Verdict::Violation(Reason::WildcardGroup),
+        10 => same_kind(ds, dn, false, p, b, 1, one, false, leaves, tables, n),
+        11 => group_wildcard(d, ds, dn, b, q, leaves, tables, n),
+        12 => same_kind(ds, dn, false, p, bs, bn, q, false, leaves, tables, n),
+        13 => sequence_choice(ds, dn, p, bs, bn, q, leaves, tables, n),
+        14 => group_all(ds, dn, p, bs, bn, q, false, leaves, tables, n),
+        15 => same_kind(ds, dn, false, p, b, 1, one, true, leaves, tables, n),
+        16 => group_wildcard(d, ds, dn, b, q, leaves, tables, n),
+        18 => same_kind(ds, dn, false, p, bs, bn, q, true, leaves, tables, n),
+        20 => Verdict::Unknown,
+        21 => group_wildcard(d, ds, dn, b, q, leaves, tables, n),
+        24 => group_all(ds, dn, p, bs, bn, q, true, leaves, tables, n),
+        _ => Verdict::Violation(Reason::GroupKind),
+    };
+    mark
+}
+
+// The ordered walk: a tree of ds is tried on the trees of bs in turn.
+fn recurse_ordered(
+    ds: &[u8],
+    dn: usize,
+    once: bool,
+    bs: &[u8],
+    bn: usize,
+    lax: bool,
+    leaves: &[u8],
+    tables: &[u8],
+    n: u8,
+) -> Verdict
+    requires { ⌜ Row dn (now ds) ⌝ }
+    requires { ⌜ Row bn (now bs) ⌝ }
+    ensures { λ r. ⌜ markOf r ≡ recurseOrdered (judge (now (leaves .entry)) (now (tables .entry)) n) lax (eachOnce once (row dn (now (ds .entry)))) (row bn (now (bs .entry))) ⌝ }
+{
+    let mut seen = false;
+    let mut ditems = ds;
+    let mut i = dn;
+    let mut bitems = bs;
+    let mut j = bn;
+    'derived: while 0 < i {
+        let d = ditems;
+        let dnext = particle::later(d);
+        ditems = dnext;
+        i -= 1;
+        'base: while 0 < j {
+            let b = bitems;
+            let bnext = particle::later(b);
+            bitems = bnext;
+            j -= 1;
+            match restrict(d, once, b, false, leaves, tables, n) {
+                Verdict::Ok => {
+                    continue 'derived;
+                }
+                Verdict::Unknown => {
+                    seen = true;
+                    continue 'derived;
+                }
+                Verdict::Violation(r) => {
+                    if lax {
+                        continue 'base;
+                    }
+                    if totals::emptiable(b) {
+                        continue 'base;
+                    }
+                    return verdicts::definite(Verdict::Violation(r), seen);
+                }
+            }
+        }
+        return verdicts::definite(Verdict::Violation(Reason::NotAllowed), seen);
+    }
+    if lax {
+        return verdicts::definite(Verdict::Ok, seen);
+    }
+    verdicts::definite(left_over(bitems, j), seen)
+}
+
+// The first tree of d against those of bs as alternatives, with the reason where none is left.
+fn any_alternative(
+    d: &[u8],
+    once: bool,
+    bs: &[u8],
+    bn: usize,
+    reason: Reason,
+    leaves: &[u8],
+    tables: &[u8],
+    n: u8,
+) -> Verdict
+    requires { ⌜ Row 1 (now d) ⌝ }
+    requires { ⌜ Row bn (now bs) ⌝ }
+    ensures { λ r. ⌜ markOf r ≡ alternatives (judge (now (leaves .entry)) (now (tables .entry)) n) (reasonNumber reason) (asOnce once (tree (now (d .entry)))) (row bn (now (bs .entry))) ⌝ }
+{
+    let mut seen = false;
+    let mut bitems = bs;
+    let mut left = bn;
+    while 0 < left {
+        let b = bitems;
+        let next = particle::later(b);
+        bitems = next;
+        left -= 1;
+        match restrict(d, once, b, false, leaves, tables, n) {
+            Verdict::Ok => {
+                return Verdict::Ok;
+            }
+            Verdict::Unknown => {
+                seen = true;
+            }
+            Verdict::Violation(_) => {}
+        }
+    }
+    verdicts::definite(Verdict::Violation(reason), seen)
+}
+
+// Sequence against sequence, or choice against choice, which is lax: range, ordered walk.
+fn same_kind(
+    ds: &[u8],
+    dn: usize,
+    once: bool,
+    p: Occurs,
+    bs: &[u8],
+    bn: usize,
+    q: Occurs,
+    lax: bool,
+    leaves: &[u8],
+    tables: &[u8],
+    n: u8,
+) -> Verdict
+    requires { ⌜ Row dn (now ds) ⌝ }
+    requires { ⌜ Row bn (now bs) ⌝ }
+    ensures { λ r. ⌜ markOf r ≡ rangeOk p q orFails rangeReason lax andThen recurseOrdered (judge (now (leaves .entry)) (now (tables .entry)) n) lax (eachOnce once (row dn (now (ds .entry)))) (row bn (now (bs .entry))) ⌝ }
+{
+    if particle::range_ok(p, q) {
+        return recurse_ordered(ds, dn, once, bs, bn, lax, leaves, tables, n);
+    }
+    if lax {
+        return Verdict::Violation(Reason::ChoiceRange);
+    }
+    Verdict::Violation(Reason::SequenceRange)
+}
+
+// Element against sequence: two readings.
+fn element_sequence(
+    d: &[u8],
+    once: bool,
+    p: Occurs,
+    bs: &[u8],
+    bn: usize,
+    q: Occurs,
+    leaves: &[u8],
+    tables: &[u8],
+    n: u8,
+) -> Verdict
+    requires { ⌜ Row 1 (now d) ⌝ }
+    requires { ⌜ Row bn (now bs) ⌝ }
+    ensures { λ r. ⌜ markOf r ≡ combineReadings (rangeOk p q orFails 105 andThen recurseOrdered (judge (now (leaves .entry)) (now (tables .entry)) n) false (eachOnce true (row 1 (now (d .entry)))) (row bn (now (bs .entry)))) (leb (q .min) 1 orFails 110 andThen recurseOrdered (judge (now (leaves .entry)) (now (tables .entry)) n) false (eachOnce once (row 1 (now (d .entry)))) (row bn (now (bs .entry)))) ⌝ }
+{
+    let wrapped = same_kind(d, 1, true, p, bs, bn, q, false, leaves, tables, n);
+    if let Verdict::Ok = wrapped {
+        return Verdict::Ok;
+    }
+    if 1 < q.min {
+        return verdicts::combine_readings(wrapped, Verdict::Violation(Reason::SequenceRequired));
+    }
+    let direct = recurse_ordered(d, 1, once, bs, bn, false, leaves, tables, n);
+    verdicts::combine_readings(wrapped, direct)
+}
+
+// Element against choice: two readings.
+fn element_choice(
+    d: &[u8],
+    once: bool,
+    p: Occurs,
+    bs: &[u8],
+    bn: usize,
+    q: Occurs,
+    leaves: &[u8],
+    tables: &[u8],
+    n: u8,
+) -> Verdict
+    requires { ⌜ Row 1 (now d) ⌝ }
+    requires { ⌜ Row bn (now bs) ⌝ }
+    ensures { λ r. ⌜ markOf r ≡ combineReadings (rangeOk p q orFails 106 andThen recurseOrdered (judge (now (leaves .entry)) (now (tables .entry)) n) true (eachOnce true (row 1 (now (d .entry)))) (row bn (now (bs .entry)))) (leb (q .min) 1 orFails 112 andThen alternatives (judge (now (leaves .entry)) (now (tables .entry)) n) 111 (asOnce once (tree (now (d .entry)))) (row bn (now (bs .entry)))) ⌝ }
+{
+    let wrapped = same_kind(d, 1, true, p, bs, bn, q, true, leaves, tables, n);
+    if let Verdict::Ok = wrapped {
+        return Verdict::Ok;
+    }
+    if 1 < q.min {
+        return verdicts::combine_readings(wrapped, Verdict::Violation(Reason::ChoiceRequired));
+    }
+    let direct = any_alternative(d, once, bs, bn, Reason::NoAlternative, leaves, tables, n);
+    verdicts::combine_readings(wrapped, direct)
+}
+
+// Group against wildcard: total range, then each member against the wildcard with pair (0, unbounded).
+fn group_wildcard(
+    group: &[u8],
+    ds: &[u8],
+    dn: usize,
+    b: &[u8],
+    q: Occurs,
+    leaves: &[u8],
+    tables: &[u8],
+    n: u8,
+) -> Verdict
+    requires { ⌜ Row 1 (now group) ⌝ }
+    requires { ⌜ Row dn (now ds) ⌝ }
+    requires { ⌜ Row 1 (now b) ⌝ }
+    ensures { λ r. ⌜ markOf r ≡ rangeOk (total (tree (now (group .entry)))) q orFails 113 andThen eachMember (λ x. judge (now (leaves .entry)) (now (tables .entry)) n x (asAny true (tree (now (b .entry))))) (row dn (now (ds .entry))) ⌝ }
+{
+    if !particle::range_ok(totals::effective_total_range(group), q) {
+        return Verdict::Violation(Reason::TotalRange);
+    }
+    let mut seen = false;
+    let mut members = ds;
+    let mut left = dn;
+    while 0 < left {
+        let d = members;
+        let next = particle::later(d);
+        members = next;
+        left -= 1;
+        match restrict(d, false, b, true, leaves, tables, n) {
+            Verdict::Ok => {}
+            Verdict::Unknown => {
+                seen = true;
+            }
+            Verdict::Violation(r) => {
+                return verdicts::definite(Verdict::Violation(r), seen);
+            }
+        }
+    }
+    verdicts::definite(Verdict::Ok, seen)
+}
+
+// Sequence against choice: pair times item count, then each member against the alternatives.
+fn sequence_choice(
+    ds: &[u8],
+    dn: usize,
+    p: Occurs,
+    bs: &[u8],
+    bn: usize,
+    q: Occurs,
+    leaves: &[u8],
+    tables: &[u8],
+    n: u8,
+) -> Verdict
+    requires { ⌜ Row dn (now ds) ⌝ }
+    requires { ⌜ dn ≤ 255 ⌝ }
+    requires { ⌜ Row bn (now bs) ⌝ }
+    ensures { λ r. ⌜ markOf r ≡ rangeOk (timesCount p dn) q orFails 116 andThen eachMember (λ x. alternatives (judge (now (leaves .entry)) (now (tables .entry)) n) 117 x (row bn (now (bs .entry)))) (row dn (now (ds .entry))) ⌝ }
+{
+    if !particle::range_ok(times_count(p, dn as u32), q) {
+        return Verdict::Violation(Reason::SequenceTotal);
+    }
+    let mut seen = false;
+    let mut members = ds;
+    let mut left = dn;
+    while 0 < left {
+        let d = members;
+        let next = particle::later(d);
+        members = next;
+        left -= 1;
+        let reason = Reason::MemberAlternative;
+        match any_alternative(d, false, bs, bn, reason, leaves, tables, n) {
+            Verdict::Ok => {}
+            Verdict::Unknown => {
+                seen = true;
+            }
+            Verdict::Violation(r) => {
+                return verdicts::definite(Verdict::Violation(r), seen);
+            }
+        }
+    }
+    verdicts::definite(Verdict::Ok, seen)
+}

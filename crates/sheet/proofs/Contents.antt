@@ -1,0 +1,90 @@
+-- What sound contents say of a sheet, and where its parts lie. Assumes nothing.
+use mathlib.Core.Path.{_≡_}
+use mathlib.Core.Bool.{true}
+use mathlib.Core.List.{List}
+use Prim.Native.Nat.{ℕ, _+_, _*_, _-_, _≤_}
+use native.Mathlib.Omega.{arith}
+use lib.Dec.{eqb, leb}
+use lib.ListN.{length, take, drop, length-drop}
+use lib.Seq.{length-take-le}
+use borrow.Author.Tests.{leb-true, le-leb, eqb-true, eq-eqb}
+use Rattle.particle.specs.Record.{recordSize, maxRecords}
+use Rattle.intake.proofs.Heads.{split}
+use Rattle.verdicts.specs.Paper.{leafSize}
+use Rattle.sheet.specs.Layout.{contentsSize, maxLeaves, leafCount, derivedCount, baseCount, zeroByte, totalField, tablesAt, derivedAt, baseAt, wholeLength, leavesPart, tablesPart, derivedPart, basePart}
+use Rattle.sheet.specs.Refused.{inRange, countsOk, contentsOk}
+
+-- a number in its range
+pub record Within (least most n : ℕ) : Type 0 where
+  pub low : least ≤ n
+  pub high : n ≤ most
+
+within : (least most n : ℕ) → inRange least most n ≡ true → Within least most n
+within least most n e =
+    let s = split (leb least n) (leb n most) e in
+    record { low = leb-true least n (s .0); high = leb-true n most (s .1) }
+
+-- the contents are in order, and the sheet is as long as they say
+pub record Contents (s : List ℕ) : Type 0 where
+  pub start : contentsSize ≤ length s
+  pub leaves : Within 1 maxLeaves (leafCount s)
+  pub derived : Within 1 maxRecords (derivedCount s)
+  pub base : Within 1 maxRecords (baseCount s)
+  pub zero : zeroByte s ≡ 0
+  pub field : totalField s ≡ wholeLength s
+  pub whole : length s ≡ wholeLength s
+
+pub contents : (s : List ℕ) → contentsOk s ≡ true → Contents s
+contents s e =
+    let a = split (leb contentsSize (length s)) _ e in
+    let b = split (countsOk s) _ (a .1) in
+    let z = split (eqb (zeroByte s) 0) _ (b .1) in
+    let t = split (eqb (totalField s) (wholeLength s)) _ (z .1) in
+    let n = split (inRange 1 maxLeaves (leafCount s)) _ (b .0) in
+    let d = split (inRange 1 maxRecords (derivedCount s)) _ (n .1) in
+    record {
+      start = leb-true contentsSize (length s) (a .0);
+      leaves = within _ _ _ (n .0);
+      derived = within _ _ _ (d .0);
+      base = within _ _ _ (d .1);
+      zero = eqb-true _ _ (z .0);
+      field = eqb-true _ _ (t .0);
+      whole = eqb-true _ _ (t .1);
+    }
+
+in-range : {least most n : ℕ} → Within least most n → inRange least most n ≡ true
+in-range w = rw (le-leb _ _ (w .low), le-leb _ _ (w .high))
+
+pub sound : (s : List ℕ) → Contents s → contentsOk s ≡ true
+sound s c = rw (le-leb _ _ (c .start), in-range (c .leaves), in-range (c .derived), in-range (c .base), eq-eqb _ _ (c .zero), eq-eqb _ _ (c .field), eq-eqb _ _ (c .whole))
+
+-- a part of s, by where it starts and ends
+pub part-is : (s : List ℕ) {start end at : ℕ} (size : ℕ) → start ≡ at → end ≡ at + size → take (end - start) (drop start s) ≡ take size (drop at s)
+part-is s {start} {end} {at} size e f =
+    let g : end - start ≡ size = omega arith in
+    rw (g, e)
+
+module _ {s : List ℕ} (c : Contents s) where
+  pub tables-within : tablesAt (leafCount s) ≤ length s
+  tables-within = omega (arith, c .whole)
+
+  pub derived-within : derivedAt (leafCount s) ≤ length s
+  derived-within = omega (arith, c .whole)
+
+  pub base-within : baseAt (leafCount s) (derivedCount s) ≤ length s
+  base-within = omega (arith, c .whole)
+
+  length-part : (at size : ℕ) → at + size ≤ length s → length (take size (drop at s)) ≡ size
+  length-part at size l = length-take-le size (drop at s) (omega (arith, length-drop at s))
+
+  pub length-leaves : length (leavesPart s) ≡ leafSize * leafCount s
+  length-leaves = length-part contentsSize (leafSize * leafCount s) tables-within
+
+  pub length-tables : length (tablesPart s) ≡ 2 * (leafCount s * leafCount s)
+  length-tables = length-part (tablesAt (leafCount s)) (2 * (leafCount s * leafCount s)) derived-within
+
+  pub length-derived : length (derivedPart s) ≡ recordSize * derivedCount s
+  length-derived = length-part (derivedAt (leafCount s)) (recordSize * derivedCount s) base-within
+
+  pub length-base : length (basePart s) ≡ recordSize * baseCount s
+  length-base = length-part (baseAt (leafCount s) (derivedCount s)) (recordSize * baseCount s) (omega (arith, c .whole))

@@ -1,0 +1,14 @@
+pub mod Tests
+pub mod Contents
+pub mod ContentsBytes
+pub mod Loops
+pub mod Refusing
+pub mod LeafBytes
+pub mod Fitting
+pub mod AcceptedSheet
+pub mod PaperParts
+pub mod FitsAccepted
+pub mod FitsBytes
+pub mod AcceptedFits
+pub mod AcceptedIff
+pub mod Examples

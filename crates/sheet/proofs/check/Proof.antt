@@ -1,0 +1,119 @@
+-- `sheet::check` meets its contract. Assumes nothing.
+use mathlib.Core.Path.{_≡_, ap, sym, _∙_}
+use mathlib.Core.Bool.{true}
+use mathlib.Core.List.{List}
+use Prim.Native.Nat.{ℕ, _*_, _≤_}
+use native.Mathlib.Nat.{le-of-eq}
+use native.Mathlib.Omega.{arith}
+use lib.ListN.{length, take, length-take}
+use borrow.Author.Needs.{needs}
+use Rattle.intake.specs.Scan.{listed}
+use Rattle.verdicts.specs.Paper.{leafSize}
+use Rattle.sheet.specs.Layout.{maxLeaves, leavesIn, sheetLeaves, tablesPart}
+use Rattle.sheet.specs.Refused.{contentsOk, leavesOk, verdictsOk, kindsOf, treesRefusal}
+use Rattle.sheet.proofs.Tests.{failed, passed}
+use Rattle.sheet.proofs.Contents.{contents, length-leaves}
+use Rattle.sheet.proofs.LeafBytes.{length-leavesIn, length-kinds}
+use Rattle.sheet.proofs.Refusing.{contents-refused, leaf-refused, verdict-refused, trees-decide}
+use Rattle.sheet.proofs.check.Statement.{statement}
+use Rattle.sheet.proofs.check.Tie as tie
+
+contents-ok-requires : tie.Need-contents-ok-requires
+contents-ok-requires c κs = search needs
+
+returns : tie.Need-returns
+returns c = contents-refused _ (failed (c .before .contents-ok .ensures) (c .if1 .taken))
+
+-- past the contents
+sound : (c : tie.Else1) → contentsOk (c .before .before .before .args .s .now) ≡ true
+sound c = passed (c .before .contents-ok .ensures) (c .if1 .left)
+
+leaf-count-requires : tie.Need-leaf-count-requires
+leaf-count-requires c κs = contents (c .before .before .before .args .s .now) (sound c) .start
+
+cast-n : tie.Need-cast-n
+cast-n c = search needs
+
+leaves-requires : tie.Need-leaves-requires
+leaves-requires c κs = sound (c .before)
+
+-- the leaves of the sheet are at hand
+few : (c : tie.After-leaves) → c .before .leaf-count .result ≤ maxLeaves
+few c = omega (arith, c .before .leaf-count .ensures, contents (c .before .before .before .before .before .args .s .now) (sound (c .before .before)) .leaves .high)
+
+enough : (c : tie.After-leaves) → leafSize * c .before .leaf-count .result ≤ length (c .leaves .result .now)
+enough c = rw (c .leaves .ensures, c .before .leaf-count .ensures) (le-of-eq (sym (length-leaves (contents (c .before .before .before .before .before .args .s .now) (sound (c .before .before))))))
+
+same : (c : tie.After-leaves) → leavesIn (c .before .leaf-count .result) (c .leaves .result .now) ≡ sheetLeaves (c .before .before .before .before .before .args .s .now)
+same c = rw (c .leaves .ensures, c .before .leaf-count .ensures)
+
+leaves-ok-requires : tie.Need-leaves-ok-requires
+leaves-ok-requires c κs = enough c
+
+leaves : (c : tie.After-leaves-ok) → c .leaves-ok .result ≡ leavesOk (sheetLeaves (c .before .before .before .before .before .before .args .s .now))
+leaves c = c .leaves-ok .ensures ∙ ap leavesOk (same (c .before))
+
+returns-2 : tie.Need-returns-2
+returns-2 c = leaf-refused _ (sound (c .before .before .before .before)) (failed (leaves (c .before)) (c .if2 .taken))
+
+tables-requires : tie.Need-tables-requires
+tables-requires c κs = sound (c .before .before .before .before)
+
+verdicts-ok-requires : tie.Need-verdicts-ok-requires
+verdicts-ok-requires c κs = search needs
+
+-- past the leaves
+in-order : (c : tie.Else2) → leavesOk (sheetLeaves (c .before .before .before .before .before .before .before .args .s .now)) ≡ true
+in-order c = passed (leaves (c .before)) (c .if2 .left)
+
+verdicts : (c : tie.After-verdicts-ok) → c .verdicts-ok .result ≡ verdictsOk (tablesPart (c .before .before .before .before .before .before .before .before .before .args .s .now))
+verdicts c = c .verdicts-ok .ensures ∙ ap verdictsOk (c .before .tables .ensures)
+
+returns-3 : tie.Need-returns-3
+returns-3 c = verdict-refused _ (sound (c .before .before .before .before .before .before .before)) (in-order (c .before .before .before)) (failed (verdicts (c .before)) (c .if3 .taken))
+
+kinds-requires : tie.Need-kinds-requires
+kinds-requires c κs = (enough (c .before .before .before .before .before), few (c .before .before .before .before .before))
+
+-- a kind for each leaf
+each : (c : tie.After-kinds) → length (take (c .before .before .before .before .before .before .before .leaf-count .result) (c .kinds .result)) ≡ c .before .before .before .before .before .before .before .leaf-count .result
+each c = ap length (c .kinds .ensures) ∙ (length-kinds _ ∙ length-leavesIn _ _)
+
+array-share-prefix-kinds : tie.Need-array-share-prefix-kinds
+array-share-prefix-kinds c = omega (arith, each c, length-take (c .before .before .before .before .before .before .before .leaf-count .result) (c .kinds .result))
+
+slice-aggregate-check-trees : tie.Need-slice-aggregate-check-trees
+slice-aggregate-check-trees c = sym (each (c .before))
+
+check-trees-requires : tie.Need-check-trees-requires
+check-trees-requires c κs = sound (c .before .before .before .before .before .before .before .before .before)
+
+returns-4 : tie.Need-returns-4
+returns-4 c =
+    let k = c .before .before in
+    let l = k .before .before .before .before .before .before in
+    let s = l .before .before .before .before .before .args .s .now in
+    let v = passed (verdicts (k .before .before)) (k .before .if3 .left) in
+    c .check-trees .ensures
+    ∙ (ap (λ (kinds : List ℕ). treesRefusal (listed kinds) s) (k .kinds .ensures ∙ ap kindsOf (same l))
+    ∙ trees-decide s (sound (l .before .before)) (in-order (k .before .before .before .before)) v)
+
+pub check-spec : {M : Type 1} → statement M
+check-spec =
+    tie.close
+    (tie.spec
+    contents-ok-requires
+    returns
+    leaf-count-requires
+    cast-n
+    leaves-requires
+    leaves-ok-requires
+    returns-2
+    tables-requires
+    verdicts-ok-requires
+    returns-3
+    kinds-requires
+    array-share-prefix-kinds
+    slice-aggregate-check-trees
+    check-trees-requires
+    returns-4)

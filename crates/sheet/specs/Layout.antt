@@ -1,0 +1,85 @@
+-- The exam sheet as bytes: contents, leaves, first table, second table, derived tree, base tree. Nothing else says the layout. Assumes nothing: these are definitions.
+use mathlib.Core.List.{List, [], _∷_, _++_}
+use Prim.Native.Nat.{ℕ, zero, suc, _+_, _*_, _/_, _%_}
+use lib.ListN.{getD, take, drop}
+use Rattle.particle.specs.Record.{recordSize, word, wordBytes}
+use Rattle.verdicts.specs.Paper.{leafSize}
+use Rattle.sheet.specs.declared.bodies.Leaf.{Leaf}
+
+-- contents, 8 bytes: leaf count, derived record count, base record count, a zero byte, total length (32 bits)
+abbrev pub contentsSize : ℕ
+contentsSize = 8
+
+-- a sheet has at most so many leaves
+abbrev pub maxLeaves : ℕ
+maxLeaves = 64
+
+abbrev pub leafCount : List ℕ → ℕ
+leafCount s = getD s 0 0
+
+abbrev pub derivedCount : List ℕ → ℕ
+derivedCount s = getD s 1 0
+
+abbrev pub baseCount : List ℕ → ℕ
+baseCount s = getD s 2 0
+
+abbrev pub zeroByte : List ℕ → ℕ
+zeroByte s = getD s 3 0
+
+abbrev pub totalField : List ℕ → ℕ
+totalField s = word s 4
+
+-- where the bodies start, and where the last one ends: the formula for the total length
+abbrev pub tablesAt : ℕ → ℕ
+tablesAt n = contentsSize + leafSize * n
+
+abbrev pub derivedAt : ℕ → ℕ
+derivedAt n = tablesAt n + 2 * (n * n)
+
+abbrev pub baseAt : ℕ → ℕ → ℕ
+baseAt n d = derivedAt n + recordSize * d
+
+abbrev pub totalOf : ℕ → ℕ → ℕ → ℕ
+totalOf n d b = baseAt n d + recordSize * b
+
+-- the length that the counts of the contents give
+abbrev pub wholeLength : List ℕ → ℕ
+wholeLength s = totalOf (leafCount s) (derivedCount s) (baseCount s)
+
+-- the contents of a sheet of n leaves, d derived and b base records
+abbrev pub contentsBytes : (n d b : ℕ) → List ℕ
+contentsBytes n d b = n ∷ d ∷ b ∷ 0 ∷ wordBytes (totalOf n d b)
+
+-- the bodies
+abbrev pub leavesPart : List ℕ → List ℕ
+leavesPart s = take (leafSize * leafCount s) (drop contentsSize s)
+
+-- both tables, the first before the second
+abbrev pub tablesPart : List ℕ → List ℕ
+tablesPart s = take (2 * (leafCount s * leafCount s)) (drop (tablesAt (leafCount s)) s)
+
+abbrev pub derivedPart : List ℕ → List ℕ
+derivedPart s = take (recordSize * derivedCount s) (drop (derivedAt (leafCount s)) s)
+
+abbrev pub basePart : List ℕ → List ℕ
+basePart s = take (recordSize * baseCount s) (drop (baseAt (leafCount s) (derivedCount s)) s)
+
+-- a leaf, 4 bytes: kind, process contents, local name number (16 bits)
+abbrev pub leafAt : List ℕ → Leaf
+leafAt s = record { kind = getD s 0 0; process = getD s 1 0; name = getD s 2 0 + getD s 3 0 * 256 }
+
+abbrev pub leafBytes : Leaf → List ℕ
+leafBytes l = l .kind ∷ l .process ∷ l .name % 256 ∷ l .name / 256 ∷ []
+
+-- the first n leaves of s, and the bytes of leaves one after the other
+unfoldable pub leavesIn : ℕ → List ℕ → List Leaf
+leavesIn zero s = []
+leavesIn (suc n) s = leafAt s ∷ leavesIn n (drop leafSize s)
+
+unfoldable pub leavesBytes : List Leaf → List ℕ
+leavesBytes [] = []
+leavesBytes (l ∷ ls) = leafBytes l ++ leavesBytes ls
+
+-- the leaves of the sheet
+abbrev pub sheetLeaves : List ℕ → List Leaf
+sheetLeaves s = leavesIn (leafCount s) (leavesPart s)

@@ -1,0 +1,56 @@
+// The exam sheet: its check, and its parts.
+mod bodies;
+mod layout;
+
+ghost use mathlib.Core.Path.{_≡_};
+ghost use mathlib.Core.Bool.{true};
+ghost use Rattle.intake.specs.Scan.{listed};
+ghost use Rattle.sheet.specs.Refused.{contentsOk, treesRefusal, sheetRefusal};
+use intake::Checked;
+use intake::Refusal;
+pub use layout::base;
+pub use layout::derived;
+pub use layout::leaf_count;
+pub use layout::leaves;
+pub use layout::tables;
+
+// What the check of a sheet finds.
+pub enum SheetChecked {
+    Accepted,
+    Refused(Refusal),
+}
+
+// The first refusal of the trees, whose leaves are of these kinds: the base tree's before the derived tree's.
+fn check_trees(s: &[u8], kinds: &[u8]) -> SheetChecked
+    requires { ⌜ contentsOk (now s) ≡ true ⌝ }
+    ensures { λ r. ⌜ r ≡ treesRefusal (listed (now (kinds .entry))) (now (s .entry)) ⌝ }
+{
+    let base = layout::base(s);
+    let derived = layout::derived(s);
+    match intake::check_tree(base, kinds) {
+        Checked::Refused(f) => SheetChecked::Refused(Refusal::Base(f)),
+        Checked::Accepted => match intake::check_tree(derived, kinds) {
+            Checked::Refused(f) => SheetChecked::Refused(Refusal::Derived(f)),
+            Checked::Accepted => SheetChecked::Accepted,
+        },
+    }
+}
+
+// The first refusal of a sheet. Every byte string is an input.
+pub fn check(s: &[u8]) -> SheetChecked
+    ensures { λ r. ⌜ r ≡ sheetRefusal (now (s .entry)) ⌝ }
+{
+    if !layout::contents_ok(s) {
+        return SheetChecked::Refused(Refusal::Contents);
+    }
+    let n = leaf_count(s) as usize;
+    let leaves = layout::leaves(s);
+    if !bodies::leaves_ok(leaves, n) {
+        return SheetChecked::Refused(Refusal::Leaf);
+    }
+    if !bodies::verdicts_ok(tables(s)) {
+        return SheetChecked::Refused(Refusal::Verdict);
+    }
+    let kinds = bodies::kinds(leaves, n);
+    check_trees(s, &kinds[..n])
+}
