@@ -8,6 +8,7 @@ use Rattle.particle.specs.declared.MaxOccurs.{MaxOccurs}
 use Rattle.particle.specs.declared.MaxOccurs.the-variants.{Bounded, Unbounded}
 use Rattle.particle.specs.declared.Occurs.{Occurs}
 use Rattle.entries.specs.Answer.{Answer, gives, refused}
+use Rattle.rules.specs.Verdicts.{Mark, passes, undecided, fails}
 
 -- 2 to the power 32
 abbrev pub beyond : ℕ
@@ -33,6 +34,13 @@ emptiableNumber (refused n) = n
 abbrev pub countNumber : Answer ℕ → ℕ
 countNumber (gives n) = n
 countNumber (refused n) = beyond + n
+
+-- 0 passes, 1 undecided, the reason's number, or 1000 + the refusal's
+abbrev pub markNumber : Answer Mark → ℕ
+markNumber (gives passes) = 0
+markNumber (gives undecided) = 1
+markNumber (gives (fails r)) = r
+markNumber (refused n) = 1000 + n
 
 -- the buffer with s at its start, where s fits; else the buffer
 abbrev pub written : List ℕ → List ℕ → List ℕ

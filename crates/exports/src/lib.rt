@@ -7,14 +7,32 @@ ghost use Rattle.totals.specs.Total.{total};
 ghost use Rattle.entries.specs.Answer.{answer, refusalAlone};
 ghost use Rattle.entries.specs.ItemAnswer.{itemBytes};
 ghost use Rattle.entries.specs.TidyAnswer.{tidyAnswer, tidyBuffer};
-ghost use Rattle.exports.specs.Numbers.{minNumber, maxNumber, emptiableNumber, countNumber, written};
+ghost use Rattle.marking.specs.Answer.{markSheet};
+ghost use Rattle.exports.specs.Numbers.{markNumber, minNumber, maxNumber, emptiableNumber, countNumber, written};
 use entries::EmptiableAnswer;
 use entries::TidiedAnswer;
 use entries::TotalAnswer;
+use marking::MarkAnswer;
 use particle::MaxOccurs;
 
 // 2 to the power 32: no minimum or bounded maximum reaches it.
 const BEYOND: u64 = 4294967296;
+
+// What is added to a refusal's number in place of a mark.
+const REFUSED: u32 = 1000;
+
+// The mark of the sheet: 0 passes, 1 undecided, the reason's number where it fails, or 1000 + N where the sheet is refused with N.
+#[no_mangle]
+pub extern "C" fn marker_mark(s: &[u8]) -> u32
+    ensures { λ r. ⌜ r ≡ markNumber (markSheet (now (s .entry))) ⌝ }
+{
+    match marking::mark(s) {
+        MarkAnswer::Passes => 0,
+        MarkAnswer::Undecided => 1,
+        MarkAnswer::Fails(r) => verdicts::reason_number(r),
+        MarkAnswer::Refused(r) => REFUSED + intake::number(r),
+    }
+}
 
 // The least number of the tree's total range, or 2^32 + N where the tree is refused with N.
 #[no_mangle]

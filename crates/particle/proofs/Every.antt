@@ -1,8 +1,9 @@
--- What holds of the record at each place of the bytes holds of each record of the trees that they are. Assumes nothing.
-use mathlib.Core.List.{List}
+-- What holds of each record, or of the record at each place of the bytes, holds of each record of the trees that they are. Assumes nothing.
+use mathlib.Core.List.{List, [], _∷_}
 use Prim.Native.Nat.{ℕ, zero, suc, _+_, _/_}
 use lib.ListN.{length, drop}
 use lib.Seq.{drop-drop}
+use Rattle.particle.specs.declared.Record.{Record}
 use Rattle.particle.specs.Record.{recordSize, recordAt}
 use Rattle.particle.specs.Tree.{Head, Items, none, item, single, takeI, dropI, headOf, build, recordsN, records, decode, tree}
 use Rattle.particle.specs.Rows.{Row, row, itemsPart}
@@ -25,6 +26,18 @@ module _ (P : Head → Type 0) where
   each-drop zero x e = e
   each-drop (suc n) none e = tt
   each-drop (suc n) (item h k r) e = each-drop n r (e .2)
+
+  -- P holds of the head of each of the records
+  unfoldable pub OfRecords : List Record → Type 0
+  OfRecords [] = Unit {0}
+  OfRecords (r ∷ rs) = P (headOf r) × OfRecords rs
+
+  pub each-records : (rs : List Record) → OfRecords rs → EachHead P (build rs)
+  unfolding EachHead OfRecords build
+  each-records [] f = tt
+  each-records (r ∷ rs) f =
+      let e = each-records rs (f .1) in
+      (f .0, each-take (r .count) _ e, each-drop (r .count) _ e)
 
   -- P holds of the record at each place of t
   abbrev pub Everywhere : List ℕ → Type 0

@@ -12,3 +12,4 @@ pub mod Folds
 pub mod Every
 pub mod Widths
 pub mod Build
+pub mod Encoded

@@ -1,0 +1,9 @@
+pub mod Answers
+pub mod FilledRows
+pub mod Filling
+pub mod EachRecord
+pub mod Inclusion
+pub mod Examples
+pub mod Papers
+pub mod TidiedPart
+pub mod Marking

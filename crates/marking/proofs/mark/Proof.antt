@@ -1,0 +1,66 @@
+-- `marking::mark` meets its contract. Assumes nothing.
+use mathlib.Core.Path.{ap, sym, _∙_}
+use borrow.Author.Needs.{needs}
+use denote.Ref.{now}
+use Rattle.verdicts.specs.Reasons.{markOf}
+use Rattle.marking.proofs.Marking.{turned-away, marked}
+use Rattle.marking.proofs.mark.Statement.{statement}
+use Rattle.marking.proofs.mark.Tie as tie
+
+check-requires : tie.Need-check-requires
+check-requires c κs = search needs
+
+enum-known-r : tie.Need-enum-known-r
+enum-known-r c = search needs
+
+enum-told : tie.Need-enum-told
+enum-told c = search needs
+
+mark-accepted-requires : tie.Need-mark-accepted-requires
+mark-accepted-requires c κs = sym (c .before .before .check .ensures) ∙ c .enum-told .given .1
+
+enum-told-2 : tie.Need-enum-told-2
+enum-told-2 c = search needs
+
+enum-told-3 : tie.Need-enum-told-3
+enum-told-3 c = search needs
+
+enum-known-r-2 : tie.Need-enum-known-r-2
+enum-known-r-2 c = search needs
+
+returns : tie.Need-returns
+returns c = turned-away (now (c .before .before .before .before .before .args .s)) (c .before .before .before .check .ensures) (c .before .r .given .1)
+
+returns-2 : tie.Need-returns-2
+returns-2 c =
+    let a = c .before .before in
+    let d = a .before .before .before in
+    marked (now (d .before .before .args .s)) (d .check .ensures) (a .before .enum-told .given .1) (ap markOf (c .enum-told2 .given .1)) (a .mark-accepted .ensures)
+
+returns-3 : tie.Need-returns-3
+returns-3 c =
+    let a = c .before .before in
+    let d = a .before .before .before in
+    marked (now (d .before .before .args .s)) (d .check .ensures) (a .before .enum-told .given .1) (ap markOf (c .enum-told3 .given .1)) (a .mark-accepted .ensures)
+
+returns-4 : tie.Need-returns-4
+returns-4 c =
+    let a = c .before .before .before in
+    let d = a .before .before .before in
+    marked (now (d .before .before .args .s)) (d .check .ensures) (a .before .enum-told .given .1) (ap markOf (c .before .r2 .given .1)) (a .mark-accepted .ensures)
+
+pub mark-spec : {M : Type 1} → statement M
+mark-spec =
+    tie.close
+    (tie.spec
+    check-requires
+    enum-known-r
+    enum-told
+    mark-accepted-requires
+    enum-told-2
+    enum-told-3
+    enum-known-r-2
+    returns
+    returns-2
+    returns-3
+    returns-4)

@@ -1,0 +1,99 @@
+// Mark a sheet: the check, both trees tidied, the mark. Every byte string is an input.
+ghost use mathlib.Core.Path.{_≡_};
+ghost use Rattle.particle.specs.Occurs.{isZero};
+ghost use Rattle.particle.specs.Tree.{pairOf, tree};
+ghost use Rattle.particle.specs.Rows.{Row};
+ghost use Rattle.rules.specs.Mark.{earlyPass, markTidied};
+ghost use Rattle.verdicts.specs.Paper.{leavesOf, tablesOf};
+ghost use Rattle.verdicts.specs.Reasons.{markOf};
+ghost use Rattle.sheet.specs.declared.SheetChecked.the-variants.{Accepted};
+ghost use Rattle.sheet.specs.Refused.{sheetRefusal};
+ghost use Rattle.marking.specs.Answer.{markOfSheet, markSheet, markMeaning};
+use intake::Refusal;
+use particle::MaxOccurs;
+use sheet::SheetChecked;
+use verdicts::Reason;
+use verdicts::Verdict;
+
+// The length of the longest tree in bytes.
+const CAPACITY: usize = particle::RECORD_SIZE * particle::MAX_RECORDS;
+
+// What marking a sheet is answered by.
+pub enum MarkAnswer {
+    Passes,
+    Undecided,
+    Fails(Reason),
+    Refused(Refusal),
+}
+
+// Whether the root of t has maximum 0.
+fn never(t: &[u8]) -> bool
+    requires { ⌜ Row 1 (now t) ⌝ }
+    ensures { λ r. ⌜ r ≡ isZero (pairOf (tree (now (t .entry)) .head) .max) ⌝ }
+{
+    let pair = particle::range(particle::record_at(t));
+    let max = pair.max;
+    match max {
+        MaxOccurs::Unbounded => false,
+        MaxOccurs::Bounded(n) => n == 0,
+    }
+}
+
+// The early pass: the derived root has maximum 0, and the base root has maximum 0 or is emptiable.
+fn early_pass(d: &[u8], b: &[u8]) -> bool
+    requires { ⌜ Row 1 (now d) ⌝ }
+    requires { ⌜ Row 1 (now b) ⌝ }
+    ensures { λ r. ⌜ r ≡ earlyPass (tree (now (d .entry))) (tree (now (b .entry))) ⌝ }
+{
+    if !never(d) {
+        return false;
+    }
+    if never(b) {
+        return true;
+    }
+    totals::emptiable(b)
+}
+
+// The mark of two tidied trees, by the leaves and the tables of a sheet with n leaves.
+fn mark_tidied(d: &[u8], b: &[u8], leaves: &[u8], tables: &[u8], n: u8) -> Verdict
+    requires { ⌜ Row 1 (now d) ⌝ }
+    requires { ⌜ Row 1 (now b) ⌝ }
+    ensures { λ r. ⌜ markOf r ≡ markTidied (leavesOf (now (leaves .entry))) (tablesOf n (now (tables .entry))) (tree (now (d .entry))) (tree (now (b .entry))) ⌝ }
+{
+    if early_pass(d, b) {
+        return Verdict::Ok;
+    }
+    restriction::restrict(d, false, b, false, leaves, tables, n)
+}
+
+// The mark of an accepted sheet: both trees are tidied first.
+fn mark_accepted(s: &[u8]) -> Verdict
+    requires { ⌜ sheetRefusal (now s) ≡ Accepted ⌝ }
+    ensures { λ r. ⌜ markOf r ≡ markOfSheet (now (s .entry)) ⌝ }
+{
+    let mut derived = [0u8; CAPACITY];
+    let mut base = [0u8; CAPACITY];
+    let d = particle::RECORD_SIZE * tidying::normalize(sheet::derived(s), &mut derived);
+    let b = particle::RECORD_SIZE * tidying::normalize(sheet::base(s), &mut base);
+    mark_tidied(
+        &derived[..d],
+        &base[..b],
+        sheet::leaves(s),
+        sheet::tables(s),
+        sheet::leaf_count(s),
+    )
+}
+
+// The mark of the sheet s, or its refusal.
+pub fn mark(s: &[u8]) -> MarkAnswer
+    ensures { λ r. ⌜ markMeaning r ≡ markSheet (now (s .entry)) ⌝ }
+{
+    match sheet::check(s) {
+        SheetChecked::Refused(r) => MarkAnswer::Refused(r),
+        SheetChecked::Accepted => match mark_accepted(s) {
+            Verdict::Ok => MarkAnswer::Passes,
+            Verdict::Unknown => MarkAnswer::Undecided,
+            Verdict::Violation(r) => MarkAnswer::Fails(r),
+        },
+    }
+}
