@@ -1,7 +1,10 @@
-//! From a tree to the oracle's particle, and back.
+//! From a tree to the oracle's particle, and back; from a sheet to its mark.
 
-use oracle::stubs::{ElementDef, Particle, ProcessContents, WildcardConstraint};
+use oracle::doors;
+use oracle::reasons::Mark;
+use oracle::stubs::{CompiledSchema, ElementDef, Particle, ProcessContents, WildcardConstraint};
 
+use crate::sheet::Sheet;
 use crate::tree::{Kind, Tree};
 
 /// What a sheet says of its leaves, by leaf number. A tree alone needs none of
@@ -15,6 +18,16 @@ pub struct Leaves {
 impl Leaves {
     pub fn none() -> Leaves {
         Leaves { names: Vec::new(), processing: Vec::new() }
+    }
+
+    pub fn of(sheet: &Sheet) -> Leaves {
+        const PROCESSING: [ProcessContents; 3] =
+            [ProcessContents::Skip, ProcessContents::Lax, ProcessContents::Strict];
+        let processing = |number: u8| PROCESSING[usize::from(number)];
+        Leaves {
+            names: sheet.leaves.iter().map(|leaf| leaf.name.to_string()).collect(),
+            processing: sheet.leaves.iter().map(|leaf| processing(leaf.processing)).collect(),
+        }
     }
 
     pub fn particle(&self, tree: &Tree) -> Particle {
@@ -51,6 +64,17 @@ impl Leaves {
             leaf: tree.leaf,
         }
     }
+}
+
+/// The oracle's mark of a sheet.
+pub fn mark(sheet: &Sheet) -> Mark {
+    let leaves = Leaves::of(sheet);
+    let schema = CompiledSchema {
+        leaves: sheet.leaves.len(),
+        first: sheet.first.clone(),
+        second: sheet.second.clone(),
+    };
+    doors::mark(&leaves.particle(&sheet.derived), &leaves.particle(&sheet.base), &schema)
 }
 
 /// The tree of a particle.

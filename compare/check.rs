@@ -3,12 +3,12 @@
 //! first answer that differs.
 
 use common::bridge::{self, Leaves};
+use common::random::Rng;
+use common::refusals;
 use common::tree::{RECORD, Tree};
 use oracle::doors;
 
 use crate::entries::{self, BEYOND};
-use crate::random::Rng;
-use crate::refusals;
 use crate::tally::Tally;
 
 pub struct Difference {

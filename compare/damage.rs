@@ -1,7 +1,7 @@
 //! Byte strings that are mostly no trees: damaged copies of good ones, noise,
 //! and strings of the lengths at which the reading turns.
 
-use common::tree::{COUNT, KIND, Kind, LEAF, MARK, MAX, MIN, Pair, RECORD, number, put_pair};
+use crate::tree::{COUNT, KIND, Kind, LEAF, MARK, MAX, MIN, Pair, RECORD, number, put_pair};
 
 use crate::grow;
 use crate::random::Rng;
@@ -20,11 +20,16 @@ pub fn string(rng: &mut Rng) -> Vec<u8> {
         _ => {
             let mut bytes = grow::tree(rng).encode();
             for _ in 0..rng.pick(&[1, 1, 1, 2, 3]) {
-                rng.pick(&DAMAGES)(rng, &mut bytes);
+                once(rng, &mut bytes);
             }
             bytes
         }
     }
+}
+
+/// Damages a tree in one way.
+pub fn once(rng: &mut Rng, bytes: &mut Vec<u8>) {
+    rng.pick(&DAMAGES)(rng, bytes);
 }
 
 /// Zeros, noise, or a good tree cut or drawn out to a length.

@@ -2,12 +2,16 @@
 //! Nothing checks these declarations against the archive: keep them beside
 //! crates/exports.
 
+// Each of the two programs asks a part of them.
+#![allow(dead_code)]
+
 unsafe extern "C" {
     fn marker_total_min(tree: *const u8, len: usize) -> u64;
     fn marker_total_max(tree: *const u8, len: usize) -> u64;
     fn marker_emptiable(tree: *const u8, len: usize) -> u32;
     fn marker_tidy(tree: *const u8, len: usize, out: *mut u8, out_len: usize) -> u64;
     fn marker_item(tree: *const u8, len: usize, k: usize, out: *mut u8, out_len: usize) -> usize;
+    fn marker_mark(sheet: *const u8, len: usize) -> u32;
 }
 
 /// What a maximum is where it is unbounded, and what is added to a refusal's
@@ -41,4 +45,13 @@ pub fn item(tree: &[u8], k: usize, out: &mut [u8]) -> usize {
 /// `out`; or `BEYOND` + N where it is refused with N, and nothing is written.
 pub fn tidy(tree: &[u8], out: &mut [u8]) -> u64 {
     unsafe { marker_tidy(tree.as_ptr(), tree.len(), out.as_mut_ptr(), out.len()) }
+}
+
+/// What is added to the number of a sheet's refusal.
+pub const REFUSED: u32 = 1000;
+
+/// A sheet's mark: 0 passes, 1 undecided, the reason's number where it fails;
+/// or `REFUSED` + N where it is refused with N.
+pub fn mark(sheet: &[u8]) -> u32 {
+    unsafe { marker_mark(sheet.as_ptr(), sheet.len()) }
 }

@@ -1,7 +1,7 @@
 //! Random accepted trees: 1 to 255 records, depth up to 12, all five kinds,
 //! pairs around the numbers at which totals turn.
 
-use common::tree::{Kind, MOST_DEPTH, MOST_RECORDS, Pair, Tree};
+use crate::tree::{Kind, MOST_DEPTH, MOST_RECORDS, Pair, Tree};
 
 use crate::random::Rng;
 
@@ -15,6 +15,7 @@ enum Pairs {
     OneEdgeIn(usize),
     Small,
     Any,
+    Usual,
 }
 
 /// How many items a group gets.
@@ -61,6 +62,38 @@ pub fn tree_of(rng: &mut Rng, records: usize) -> Tree {
         pairs: rng.pick(&[Edges, OneEdgeIn(4), OneEdgeIn(12), OneEdgeIn(60), Small, Any]),
         shape: rng.pick(&[Narrow, Wide, Mixed, Mixed]),
         zeros: rng.pick(&[Drawn, Drawn, Drawn, Leaves(0), Leaves(0), Leaves(1), Leaves(98)]),
+    };
+    grow(rng, records, MOST_DEPTH, style)
+}
+
+/// Pairs as content models have them, and some that they may not have.
+const USUAL: [Pair; 16] = [
+    (1, Some(1)),
+    (1, Some(1)),
+    (1, Some(1)),
+    (1, Some(1)),
+    (1, Some(1)),
+    (0, Some(1)),
+    (0, Some(1)),
+    (0, None),
+    (0, None),
+    (1, None),
+    (1, None),
+    (1, Some(2)),
+    (0, Some(3)),
+    (2, Some(2)),
+    (2, None),
+    (0, Some(0)),
+];
+
+/// A tree of exactly so many records whose pairs are usual ones.
+pub fn usual_tree_of(rng: &mut Rng, records: usize) -> Tree {
+    use Shape::*;
+    use Zeros::*;
+    let style = Style {
+        pairs: Pairs::Usual,
+        shape: rng.pick(&[Narrow, Wide, Mixed, Mixed, Mixed]),
+        zeros: rng.pick(&[Drawn, Drawn, Drawn, Leaves(0), Leaves(30)]),
     };
     grow(rng, records, MOST_DEPTH, style)
 }
@@ -147,6 +180,7 @@ fn pair(rng: &mut Rng, style: Style) -> Pair {
             let (a, b) = (any(rng), any(rng));
             (a.min(b), (!rng.one_in(30)).then_some(a.max(b)))
         }
+        Pairs::Usual => rng.pick(&USUAL),
     };
     if style.zeros == Zeros::Drawn { (min, max) } else { (min.max(1), max.map(|max| max.max(1))) }
 }

@@ -4,19 +4,16 @@
 //! panic says that the harness itself is at fault.
 
 mod check;
-mod damage;
 mod entries;
 mod faults;
-mod grow;
-mod random;
-mod refusals;
 mod small;
 mod tally;
 
+use common::random::Rng;
 use common::tree::{RECORD, Tree};
+use common::{damage, grow, refusals};
 
 use check::Difference;
-use random::Rng;
 use tally::Tally;
 
 struct Options {

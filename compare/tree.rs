@@ -52,6 +52,30 @@ impl Tree {
         Tree { kind, leaf: 0, pair, items }
     }
 
+    pub fn records(&self) -> usize {
+        1 + self.items.iter().map(Tree::records).sum::<usize>()
+    }
+
+    pub fn depth(&self) -> usize {
+        1 + self.items.iter().map(Tree::depth).max().unwrap_or(0)
+    }
+
+    /// The record `k` (from 0) with what is below it.
+    pub fn record(&mut self, k: usize) -> &mut Tree {
+        if k == 0 {
+            return self;
+        }
+        let mut k = k - 1;
+        for item in &mut self.items {
+            let records = item.records();
+            if k < records {
+                return item.record(k);
+            }
+            k -= records;
+        }
+        panic!("no such record")
+    }
+
     pub fn encode(&self) -> Vec<u8> {
         let mut out = Vec::new();
         self.write(&mut out);

@@ -8,6 +8,7 @@ ghost use mathlib.Core.Bool.{true, false};
 ghost use Prim.Native.Nat.{_≤_};
 ghost use lib.Dec.{leb};
 ghost use Rattle.particle.specs.Occurs.{rangeOk};
+ghost use Rattle.particle.specs.Record.{maxRecords};
 ghost use Rattle.particle.specs.Tree.{tree};
 ghost use Rattle.particle.specs.Rows.{Row, row};
 ghost use Rattle.totals.specs.Total.{total};
@@ -305,7 +306,7 @@ fn sequence_choice(
     n: u8,
 ) -> Verdict
     requires { ⌜ Row dn (now ds) ⌝ }
-    requires { ⌜ dn ≤ 255 ⌝ }
+    requires { ⌜ dn ≤ maxRecords ⌝ }
     requires { ⌜ Row bn (now bs) ⌝ }
     ensures { λ r. ⌜ markOf r ≡ rangeOk (timesCount p dn) q orFails 116 andThen eachMember (λ x. alternatives (judge (now (leaves .entry)) (now (tables .entry)) n) 117 x (row bn (now (bs .entry)))) (row dn (now (ds .entry))) ⌝ }
 {

@@ -2,6 +2,7 @@
 ghost use mathlib.Core.Path.{_≡_};
 ghost use Prim.Native.Nat.{_≤_};
 ghost use Rattle.particle.specs.Occurs.{rangeOk};
+ghost use Rattle.particle.specs.Record.{maxRecords};
 ghost use Rattle.particle.specs.Rows.{Row, row};
 ghost use Rattle.rules.specs.Combine.{_orFails_, _andThen_};
 ghost use Rattle.rules.specs.Walk.{leftOver, recurseUnordered};
@@ -45,7 +46,7 @@ pub fn group_all(
 ) -> Verdict
     requires { ⌜ Row dn (now ds) ⌝ }
     requires { ⌜ Row bn (now bs) ⌝ }
-    requires { ⌜ bn ≤ 255 ⌝ }
+    requires { ⌜ bn ≤ maxRecords ⌝ }
     ensures { λ r. ⌜ markOf r ≡ rangeOk p q orFails allReason all andThen recurseUnordered (leavesOf (now (leaves .entry))) (tablesOf n (now (tables .entry))) (row dn (now (ds .entry))) (row bn (now (bs .entry))) ⌝ }
 {
     if particle::range_ok(p, q) {

@@ -1,0 +1,173 @@
+//! Compares the proved library's marks of whole sheets with the oracle's, and
+//! its refusals with a second reading of document 01. Run it by compare/run.
+//! Exit status 0: all equal; 1: a difference; 2: bad usage; a panic says that
+//! the harness itself is at fault.
+
+mod change;
+mod cost;
+mod disguise;
+mod entries;
+mod leaves;
+mod limits;
+mod narrow;
+mod sheet_check;
+mod sheet_damage;
+mod sheet_grow;
+mod sheet_known;
+mod sheet_refusals;
+mod sheet_report;
+mod sheet_tally;
+mod spoil;
+mod tiny;
+
+use common::random::Rng;
+use common::stated::{self, EXAMPLES, SETTLED};
+
+use entries::REFUSED;
+use sheet_check::Difference;
+use sheet_grow::Size;
+use sheet_tally::Tally;
+
+const RANDOM: u64 = 300_000;
+const DAMAGED: u64 = 100_000;
+/// So many random sheets are small, so that a difference shows on a small one
+/// if it can.
+const SMALL: u64 = 100_000;
+
+struct Options {
+    seed: u64,
+    /// Random sheets.
+    count: u64,
+    /// Damaged sheets.
+    damaged: u64,
+}
+
+/// Where a difference turned up: the run and its case, and the sheet.
+struct Found {
+    case: String,
+    bytes: Vec<u8>,
+    difference: Difference,
+}
+
+fn main() {
+    let options = options();
+    let mut tally = Tally::default();
+    // Short runs first, so that a difference shows on a small case if it can.
+    for run in [known_sheets, tiny_sheets, limit_sheets, random_sheets, damaged_sheets] {
+        if let Err(found) = run(&options, &mut tally) {
+            sheet_report::print(&found.case, &found.bytes, &found.difference);
+            std::process::exit(1);
+        }
+    }
+    complete(&options, &tally);
+    println!("{tally}");
+}
+
+/// At the default size or above it, every mark and refusal must have come up.
+fn complete(options: &Options, tally: &Tally) {
+    let marks = tally.random_answers.missing_marks();
+    assert!(options.count < RANDOM || marks.is_empty(), "marks that never came up: {marks:?}");
+    let refusals = tally.damaged_answers.missing_refusals();
+    let few = options.damaged < DAMAGED;
+    assert!(few || refusals.is_empty(), "refusals that never came up: {refusals:?}");
+}
+
+fn options() -> Options {
+    let mut options = Options { seed: 1, count: RANDOM, damaged: DAMAGED };
+    let mut words = std::env::args().skip(1);
+    while let Some(word) = words.next() {
+        let field = match word.as_str() {
+            "--seed" => &mut options.seed,
+            "--count" => &mut options.count,
+            "--damaged" => &mut options.damaged,
+            _ => usage(&format!("unknown argument {word}")),
+        };
+        match words.next().map(|value| value.parse()) {
+            Some(Ok(value)) => *field = value,
+            _ => usage(&format!("{word} wants a number")),
+        }
+    }
+    options
+}
+
+fn usage(message: &str) -> ! {
+    eprintln!("{message}\nusage: compare/run sheets [--seed S] [--count N] [--damaged N]");
+    std::process::exit(2);
+}
+
+fn found(case: String, bytes: Vec<u8>) -> impl FnOnce(Difference) -> Found {
+    move |difference| Found { case, bytes, difference }
+}
+
+/// Compares a sheet whose answer is stated by hand; the oracle and the second
+/// reading must say the same.
+fn stated_sheet(case: String, bytes: Vec<u8>, stated: &str) -> Result<(), Found> {
+    let expected = sheet_check::expected(&bytes);
+    let read = sheet_check::text(expected);
+    assert!(read == stated, "{case}: {read}, stated is {stated}");
+    sheet_check::compare(&bytes, expected).map_err(found(case, bytes))
+}
+
+fn known_sheets(_: &Options, tally: &mut Tally) -> Result<(), Found> {
+    for (what, bytes, stated) in sheet_known::known() {
+        tally.known += 1;
+        stated_sheet(format!("known sheet '{what}'"), bytes, stated)?;
+    }
+    for (derived, base, also, mark) in EXAMPLES.iter().chain(&SETTLED) {
+        tally.known += 1;
+        let bytes = stated::sheet(derived, base, also).encode();
+        stated_sheet(format!("example {derived} | {base}{also}"), bytes, mark)?;
+    }
+    Ok(())
+}
+
+fn limit_sheets(_: &Options, tally: &mut Tally) -> Result<(), Found> {
+    for (what, sheet, stated) in limits::stated() {
+        tally.limits += 1;
+        stated_sheet(format!("sheet at the limits '{what}'"), sheet.encode(), stated)?;
+    }
+    Ok(())
+}
+
+fn tiny_sheets(_: &Options, tally: &mut Tally) -> Result<(), Found> {
+    tiny::every(&mut |sheet| {
+        tally.tiny += 1;
+        let bytes = sheet.encode();
+        let expected = accepted(&bytes);
+        sheet_check::compare(&bytes, expected).map_err(found("all tiny sheets".into(), bytes))
+    })
+}
+
+/// The mark that is expected; the sheets that these runs make are good ones.
+fn accepted(bytes: &[u8]) -> u32 {
+    let expected = sheet_check::expected(bytes);
+    assert!(expected < REFUSED, "a sheet of ours: {}", sheet_check::text(expected));
+    expected
+}
+
+fn random_sheets(options: &Options, tally: &mut Tally) -> Result<(), Found> {
+    for case in 0..options.count {
+        let mut rng = Rng::new(options.seed, case);
+        let size = if case < SMALL { Size::Small } else { Size::Any };
+        let bytes = sheet_grow::sheet(&mut rng, size).encode();
+        let expected = accepted(&bytes);
+        tally.random += 1;
+        tally.random_answers.count(expected);
+        let case = format!("random sheet {case} of seed {}", options.seed);
+        sheet_check::compare(&bytes, expected).map_err(found(case, bytes))?;
+    }
+    Ok(())
+}
+
+fn damaged_sheets(options: &Options, tally: &mut Tally) -> Result<(), Found> {
+    for case in 0..options.damaged {
+        let mut rng = Rng::new(!options.seed, case);
+        let bytes = sheet_damage::sheet(&mut rng);
+        let expected = sheet_check::expected(&bytes);
+        tally.damaged += 1;
+        tally.damaged_answers.count(expected);
+        let case = format!("damaged sheet {case} of seed {}", options.seed);
+        sheet_check::compare(&bytes, expected).map_err(found(case, bytes))?;
+    }
+    Ok(())
+}
