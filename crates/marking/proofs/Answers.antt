@@ -3,7 +3,7 @@ use mathlib.Core.Path.{_≡_, refl}
 use Prim.Native.Nat.{ℕ}
 use native.Mathlib.Omega.{arith}
 use Rattle.rules.specs.Verdicts.{Mark}
-use Rattle.entries.specs.Answer.{Answer, gives, refused}
+use Rattle.entries.specs.Answer.{gives}
 use Rattle.sheet.specs.declared.SheetChecked.{SheetChecked}
 use Rattle.sheet.specs.declared.SheetChecked.the-variants.{Accepted, Refused}
 use Rattle.marking.specs.Answer.{answerOf}

@@ -6,9 +6,9 @@ use Prim.Native.Nat.{ℕ, suc, pred}
 use lib.Dec.{eqb}
 use lib.ListN.{length}
 use Rattle.particle.specs.declared.Record.{Record}
-use Rattle.particle.specs.Tree.{Head, headOf, single, records, tree}
+use Rattle.particle.specs.Tree.{Head, headOf, records, tree}
 use Rattle.particle.proofs.Build.{decode-is}
-use Rattle.particle.proofs.Every.{EachHead, OfRecords, each-records}
+use Rattle.particle.proofs.Every.{OfRecords, each-records}
 use Rattle.language.specs.Premises.{Throughout}
 use Rattle.language.proofs.Premises.{throughout-heads}
 use Rattle.intake.specs.declared.Checked.{Checked}

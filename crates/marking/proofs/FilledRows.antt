@@ -1,5 +1,4 @@
 -- Rows of verdicts filled in: they are in order as before, and each verdict is left or filled in. Assumes nothing.
-use mathlib.Core.Bool.{Bool, _&&_}
 use mathlib.Core.List.{List, [], _∷_}
 use mathlib.Core.Path.{_≡_, refl}
 use Prim.Native.Nat.{ℕ, zero, suc, _≤_, _<_}

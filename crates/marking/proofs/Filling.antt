@@ -1,6 +1,6 @@
 -- Demand 3 over sheets, first half: a sheet filled in is refused as before, and keeps a mark that is not undecided. Assumes nothing.
 use mathlib.Core.List.{List}
-use mathlib.Core.Path.{_≡_, refl, ap, sym, _∙_}
+use mathlib.Core.Path.{_≡_, refl, sym, _∙_}
 use Prim.Native.Nat.{ℕ, _+_, _*_, _≤_, _<_}
 use native.Mathlib.Omega.{arith}
 use lib.ListN.{length, take, drop, getD, length-take, length-drop}
@@ -11,14 +11,10 @@ use Rattle.rules.specs.Mark.{mark}
 use Rattle.rules.specs.Demand.{FilledIn}
 use Rattle.rules.proofs.Filling.{filled-keeps}
 use Rattle.verdicts.specs.Paper.{leafSize}
-use Rattle.entries.specs.Answer.{Answer, gives, refused}
-use Rattle.sheet.specs.declared.bodies.Leaf.{Leaf}
-use Rattle.sheet.specs.declared.SheetChecked.{SheetChecked}
-use Rattle.sheet.specs.declared.SheetChecked.the-variants as checked
-use Rattle.sheet.specs.Layout.{contentsSize, leafCount, derivedCount, baseCount, zeroByte, totalField, tablesAt, derivedAt, baseAt, leavesPart, tablesPart, derivedPart, basePart, leavesIn}
-use Rattle.sheet.specs.Refused.{contentsOk, leavesOk, verdictsOk, sheetRefusal}
-use Rattle.marking.specs.Answer.{sheetLeaves, sheetTables, derivedTree, baseTree, markOfSheet, answerOf, markSheet}
-use Rattle.marking.specs.Demand.{FilledByte, FilledSheet, FillingKeepsSheetMarks}
+use Rattle.sheet.specs.Layout.{contentsSize, leafCount, derivedCount, baseCount, tablesAt, derivedAt, baseAt, leavesPart, tablesPart, derivedPart, basePart}
+use Rattle.sheet.specs.Refused.{contentsOk, verdictsOk, sheetRefusal}
+use Rattle.marking.specs.Answer.{sheetLeaves, sheetTables, derivedTree, baseTree, markOfSheet, markSheet}
+use Rattle.marking.specs.Demand.{FilledSheet, FillingKeepsSheetMarks}
 use Rattle.marking.proofs.FilledRows.{FilledRow, filled-row, row-ok, row-verdict}
 use Rattle.marking.proofs.Answers.{answer-gives}
 

@@ -2,29 +2,27 @@
 use mathlib.Core.Bool.{Bool, true, false, cond, _&&_, _||_, false≢true}
 use mathlib.Core.List.{List}
 use mathlib.Core.Path.{_≡_, refl, ap, sym, _∙_}
-use Prim.Native.Nat.{ℕ, zero, suc, _+_, _*_, _≤_, _<_}
+use Prim.Native.Nat.{ℕ, zero, suc, _*_, _≤_, _<_}
 use native.Mathlib.Decide.{decLe}
 use native.Mathlib.Omega.{arith}
 use lib.Dec.{eqb, ltb, leb}
 use lib.ListN.{length, drop, getD}
 use lib.Seq.{getD-drop}
 use borrow.Author.Tests.{ltb-true, leb-true, eqb-true, ne-eqb}
-use Rattle.particle.specs.declared.MaxOccurs.{MaxOccurs}
 use Rattle.particle.specs.declared.Occurs.{Occurs}
 use Rattle.particle.specs.declared.Record.{Record}
 use Rattle.particle.specs.Record.{maxOf, rangeOf}
-use Rattle.particle.specs.Tree.{Head, Particle, pairOf, headFrom, headOf, tree}
+use Rattle.particle.specs.Tree.{pairOf, headFrom, headOf, tree}
 use Rattle.particle.proofs.Heads.{pair-record}
 use Rattle.language.specs.Language.{AtMost}
-use Rattle.rules.specs.Verdicts.{Leaves}
 use Rattle.rules.specs.Demand.{LeafKnown, Supposed}
 use Rattle.rules.proofs.Inclusion.{passes-includes}
 use Rattle.intake.specs.declared.Checked.the-variants.{Accepted}
-use Rattle.intake.specs.Faults.{Known, leafOk, boundOk, pairOk, faultOf}
-use Rattle.intake.specs.Scan.{listed, refusalIn}
+use Rattle.intake.specs.Faults.{leafOk, boundOk, faultOf}
+use Rattle.intake.specs.Scan.{refusalIn}
 use Rattle.intake.proofs.Steps.{clean}
 use Rattle.intake.proofs.Heads.{split}
-use Rattle.verdicts.specs.Paper.{leafSize, leavesOf}
+use Rattle.verdicts.specs.Paper.{leafSize}
 use Rattle.sheet.specs.declared.bodies.Leaf.{Leaf}
 use Rattle.sheet.specs.Layout.{leafCount, leavesPart, derivedPart, basePart, leafAt, leavesIn}
 use Rattle.sheet.specs.Refused as sheet

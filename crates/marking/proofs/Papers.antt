@@ -1,6 +1,6 @@
 -- The sheet of a paper that meets document 01's conditions has the mark of the paper's leaves, tables and trees. Assumes nothing.
 use mathlib.Core.List.{_++_}
-use mathlib.Core.Path.{_≡_, ap, refl, _∙_}
+use mathlib.Core.Path.{_≡_, ap, _∙_}
 use Prim.Native.Nat.{_*_}
 use lib.ListN.{length}
 use lib.Seq.{take-at}

@@ -1,4 +1,6 @@
--- Demand 3 over sheets: what its two halves state of `markSheet`, which is what Mark a sheet answers. Assumes nothing: these are definitions.
+-- Demand 3 over sheets: what its two halves state. Both speak of `markSheet`. The contract of the entry `mark` is that its answer r to the sheet s has
+-- markMeaning r ≡ markSheet s, and so both hold of what the entry answers: `markMeaning r ≡ gives m` is the same as `markSheet s ≡ gives m`.
+-- Assumes nothing: these are definitions.
 use mathlib.Core.List.{List}
 use mathlib.Core.Path.{_≡_}
 use Prim.Native.Nat.{ℕ, _≤_, _<_}

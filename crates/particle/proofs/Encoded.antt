@@ -1,10 +1,9 @@
 -- The encoding of a tree is whole records, each with its items, and the tree that they start with is that tree. Assumes nothing.
-use mathlib.Core.Path.{_≡_, ap, sym, _∙_}
-use mathlib.Core.List.{List, [], _∷_, _++_, append-assoc, append-nil}
-use Prim.Native.Nat.{ℕ}
+use mathlib.Core.Path.{_≡_, ap}
+use mathlib.Core.List.{List, [], _++_, append-assoc, append-nil}
 use native.Mathlib.Omega.{arith}
 use Rattle.particle.specs.declared.Record.{Record}
-use Rattle.particle.specs.Tree.{Items, none, item, Particle, _then_, single, countI, build, records, decode, firstOf, tree}
+use Rattle.particle.specs.Tree.{Items, none, item, Particle, single, countI, build, firstOf, tree}
 use Rattle.particle.specs.Rows.{Complete, Row}
 use Rattle.particle.specs.Encode.{flat, encode}
 use Rattle.particle.proofs.RoundTrip.{build-flat, records-joined, decode-encode}
