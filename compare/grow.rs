@@ -15,7 +15,9 @@ enum Pairs {
     OneEdgeIn(usize),
     Small,
     Any,
+    /// As content models have them.
     Usual,
+    UsualOneEdgeIn(usize),
 }
 
 /// How many items a group gets.
@@ -91,7 +93,7 @@ pub fn usual_tree_of(rng: &mut Rng, records: usize) -> Tree {
     use Shape::*;
     use Zeros::*;
     let style = Style {
-        pairs: Pairs::Usual,
+        pairs: rng.pick(&[Pairs::Usual, Pairs::Usual, Pairs::UsualOneEdgeIn(10)]),
         shape: rng.pick(&[Narrow, Wide, Mixed, Mixed, Mixed]),
         zeros: rng.pick(&[Drawn, Drawn, Drawn, Leaves(0), Leaves(30)]),
     };
@@ -169,7 +171,7 @@ fn all_pair(rng: &mut Rng, style: Style) -> Pair {
 fn pair(rng: &mut Rng, style: Style) -> Pair {
     let (min, max) = match style.pairs {
         Pairs::Edges => edge_pair(rng),
-        Pairs::OneEdgeIn(n) if rng.one_in(n) => edge_pair(rng),
+        Pairs::OneEdgeIn(n) | Pairs::UsualOneEdgeIn(n) if rng.one_in(n) => edge_pair(rng),
         Pairs::OneEdgeIn(_) => rng.pick(&[(1, Some(1)), (1, Some(1)), (1, Some(2)), (0, Some(1))]),
         Pairs::Small => {
             let min = rng.below(4) as u32;
@@ -180,7 +182,7 @@ fn pair(rng: &mut Rng, style: Style) -> Pair {
             let (a, b) = (any(rng), any(rng));
             (a.min(b), (!rng.one_in(30)).then_some(a.max(b)))
         }
-        Pairs::Usual => rng.pick(&USUAL),
+        Pairs::Usual | Pairs::UsualOneEdgeIn(_) => rng.pick(&USUAL),
     };
     if style.zeros == Zeros::Drawn { (min, max) } else { (min.max(1), max.map(|max| max.max(1))) }
 }

@@ -22,7 +22,7 @@ pub fn paper(rng: &mut Rng, count: usize) -> Paper {
 }
 
 fn leaves(rng: &mut Rng, count: usize) -> Vec<Leaf> {
-    let wildcards_in_10 = rng.pick(&[0, 1, 2, 2, 3, 5, 10]);
+    let wildcards_in_10 = if rng.one_in(30) { 10 } else { rng.pick(&[0, 1, 2, 2, 3, 5]) };
     let names = rng.pick(&[1, 2, 2, 3, 5, 8, 64]);
     let leaf = |place| {
         if rng.below(10) < wildcards_in_10 {

@@ -231,7 +231,7 @@ fn numbers() -> Vec<Stated> {
 /// Every member is undecided at the bottom of a chain of choices, and each
 /// level asks for both readings: the number of judgements doubles each time.
 fn longest() -> Stated {
-    let members = group(Kind::Sequence, ONCE, same(100, ONCE));
+    let members = group(Kind::Sequence, ONCE, same(MOST, ONCE));
     let chain = (2..MOST_DEPTH).fold(element(1, ONCE), |inner, _| {
         group(Kind::Choice, (0, Some(2)), vec![element(2, ONCE), inner])
     });

@@ -128,7 +128,7 @@ impl Narrower<'_> {
             }
             let kind = self.rng.pick(&[Kind::Element, Kind::Element, Kind::Wildcard]);
             let leaf = self.leaf(kind, base);
-            items.extend(leaf.map(|leaf| Tree { pair: self.rng.pick(&PAIRS), ..leaf }));
+            items.extend(leaf.map(|leaf| Tree { pair: self.any_pair(), ..leaf }));
         }
         let only_elements = items.iter().all(|item| item.kind == Kind::Element);
         let kind = match self.rng.below(5) {
@@ -142,10 +142,14 @@ impl Narrower<'_> {
             if within((min, max), base.pair) {
                 break;
             }
-            let pairs = if kind == Kind::All { &PAIRS[..2] } else { &PAIRS[..] };
-            group.pair = self.rng.pick(pairs);
+            let is_all = kind == Kind::All;
+            group.pair = if is_all { self.rng.pick(&PAIRS[..2]) } else { self.any_pair() };
         }
         group
+    }
+
+    fn any_pair(&mut self) -> Pair {
+        if self.rng.one_in(8) { self.rng.pick(&EDGES) } else { self.rng.pick(&PAIRS) }
     }
 
     /// A leaf of a kind that the base leaf lets through, its pair inside.
@@ -155,10 +159,11 @@ impl Narrower<'_> {
     }
 
     /// The number of a leaf that is ok below a base leaf, now and then of one
-    /// that is undecided.
+    /// that is undecided, or of a wildcard that is weaker.
     fn under(&mut self, kind: Kind, base: u8, name: Option<u16>) -> Option<u8> {
         let count = self.paper.leaves.len();
         let most = if self.rng.one_in(4) { 1 } else { 0 };
+        let may_be_weaker = kind == Kind::Element || self.rng.one_in(6);
         let good = |number: usize| {
             let leaf = self.paper.leaves[number];
             let above = self.paper.leaves[usize::from(base)];
@@ -167,7 +172,7 @@ impl Narrower<'_> {
                 && name.is_none_or(|name| leaf.name == name)
                 && (above.kind == Kind::Wildcard || self.paper.first[at] <= most)
                 && self.paper.second[at] <= most
-                && leaf.processing >= if kind == Kind::Wildcard { above.processing } else { 0 }
+                && (may_be_weaker || leaf.processing >= above.processing)
         };
         let from = if self.rng.one_in(2) { usize::from(base) } else { self.rng.below(count) };
         let found = (from..count).chain(0..from).find(|number| good(*number));
@@ -194,6 +199,10 @@ impl Narrower<'_> {
 /// Of a member's or of its group; an all-group may have the first two.
 const PAIRS: [Pair; 7] =
     [(1, Some(1)), (0, Some(1)), (1, Some(1)), (0, None), (1, None), (2, Some(2)), (0, Some(0))];
+
+/// Pairs whose products turn at 4294967295.
+const EDGES: [Pair; 4] =
+    [(65536, Some(65536)), (65535, Some(65537)), (2147483648, None), (0, Some(4294967295))];
 
 fn emptiable(tree: &Tree) -> bool {
     doors::emptiable(&Leaves::none().particle(tree))

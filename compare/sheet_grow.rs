@@ -12,7 +12,7 @@ use crate::narrow::Narrower;
 use crate::{change, cost, disguise, spoil};
 
 /// What the oracle may be asked in one sheet (cost.rs).
-pub const MOST_JUDGEMENTS: u64 = 60_000;
+pub const MOST_JUDGEMENTS: u64 = 500_000;
 
 #[derive(Clone, Copy, PartialEq)]
 pub enum Size {
@@ -32,9 +32,10 @@ pub fn sheet(rng: &mut Rng, size: Size) -> Sheet {
 
 fn draw(rng: &mut Rng, size: Size) -> Sheet {
     let count = match rng.below(20) {
-        0..16 => rng.within(1, 6),
-        _ if size == Size::Small => rng.within(1, 6),
-        16..19 => rng.within(7, 24),
+        0 => 1,
+        1..15 => rng.within(2, 7),
+        _ if size == Size::Small => rng.within(2, 7),
+        15..18 => rng.within(8, 24),
         _ => rng.pick(&[25, 33, 63, MOST_LEAVES]),
     };
     let paper = leaves::paper(rng, count);

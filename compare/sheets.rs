@@ -28,11 +28,11 @@ use sheet_check::Difference;
 use sheet_grow::Size;
 use sheet_tally::Tally;
 
-const RANDOM: u64 = 300_000;
-const DAMAGED: u64 = 100_000;
+const RANDOM: u64 = 500_000;
+const DAMAGED: u64 = 300_000;
 /// So many random sheets are small, so that a difference shows on a small one
 /// if it can.
-const SMALL: u64 = 100_000;
+const SMALL: u64 = 250_000;
 
 struct Options {
     seed: u64,

@@ -6,13 +6,14 @@ use common::tree::{Kind, Pair, Tree};
 
 use crate::change::Change;
 
-pub const CHANGES: [Change; 12] = [
+pub const CHANGES: [Change; 13] = [
     lower_minimum,
     raise_maximum,
     unbounded,
     any_pair,
     any_leaf,
     any_leaf,
+    weaker_wildcard,
     drop_item,
     repeat_item,
     insert_item,
@@ -40,8 +41,19 @@ fn any_pair(rng: &mut Rng, record: &mut Tree, _: &[Leaf]) {
 }
 
 fn any_leaf(rng: &mut Rng, record: &mut Tree, leaves: &[Leaf]) {
-    if record.kind.is_leaf() {
-        *record = Tree { pair: record.pair, ..leaf(rng, leaves) };
+    let found = leaf(rng, leaves);
+    if record.kind.is_leaf() && (found.kind == record.kind || rng.one_in(2)) {
+        *record = Tree { pair: record.pair, ..found };
+    }
+}
+
+fn weaker_wildcard(_: &mut Rng, record: &mut Tree, leaves: &[Leaf]) {
+    if record.kind == Kind::Wildcard {
+        let own = leaves[usize::from(record.leaf)].processing;
+        let weaker = |leaf: &Leaf| leaf.kind == Kind::Wildcard && leaf.processing < own;
+        if let Some(number) = leaves.iter().position(weaker) {
+            record.leaf = number as u8;
+        }
     }
 }
 
