@@ -110,7 +110,9 @@ fn other_verdict(rng: &mut Rng, bodies: &mut Bodies) {
 
 /// Damage of a tree alone, mostly leaving whole records.
 fn tree(rng: &mut Rng, tree: &mut Vec<u8>) {
-    damage::once(rng, tree);
+    for _ in 0..rng.pick(&[1, 1, 2, 3]) {
+        damage::once(rng, tree);
+    }
     if !rng.one_in(8) {
         tree.truncate(tree.len() / RECORD * RECORD);
     }

@@ -4,7 +4,7 @@
 
 use common::notation::parse;
 use common::sheet::{BASE, Bodies, CONTENTS, DERIVED, LEAVES, Leaf, Sheet, TOTAL, ZERO};
-use common::tree::{KIND, Kind, LEAF, MAX, MIN, MOST_DEPTH, RECORD, Tree};
+use common::tree::{KIND, Kind, LEAF, MAX, MIN, RECORD, Tree};
 
 /// What it shows, the sheet, and its answer.
 pub type Known = (&'static str, Vec<u8>, &'static str);
@@ -138,7 +138,7 @@ type Fault = (&'static str, &'static str, fn(&mut Vec<u8>), u32);
 
 /// Each fault in the base tree and in the derived tree. The records are the
 /// sequence, a, b.
-const FAULTS: [Fault; 14] = [
+const FAULTS: [Fault; 17] = [
     ("base: kind 5", "derived: kind 5", |b| b[RECORD + KIND] = 5, 0),
     ("base: leaf 3 of 3", "derived: leaf 3 of 3", |b| b[RECORD + LEAF] = 3, 0),
     ("base: leaf 63", "derived: leaf 63", |b| b[RECORD + LEAF] = 63, 0),
@@ -148,7 +148,10 @@ const FAULTS: [Fault; 14] = [
     ("base: pair (2,1)", "derived: pair (2,1)", |b| b[RECORD + MIN] = 2, 1),
     ("base: an all of maximum 2", "derived: an all of maximum 2", all_of_2, 2),
     ("base: a wildcard in an all", "derived: a wildcard in an all", wildcard_in_all, 2),
-    ("base: depth 13", "derived: depth 13", depth_13, 3),
+    ("base: depth 13", "derived: depth 13", |b| *b = under(12, "a"), 3),
+    ("base: an all at depth 13", "derived: an all at depth 13", |b| *b = under(12, "A(0,0)[]"), 2),
+    ("base: an all's item there", "derived: an all's item there", |b| *b = under(11, "A[w2]"), 2),
+    ("base: a pair there", "derived: a pair there", |b| *b = under(12, "a(2,1)"), 1),
     ("base: a record missing", "derived: a record missing", |b| b.truncate(2 * RECORD), 4),
     ("base: a surplus record", "derived: a surplus record", |b| b.extend([9; RECORD]), 4),
     ("base: a fault, then missing", "derived: a fault, then missing", fault_then_missing, 0),
@@ -164,9 +167,10 @@ fn wildcard_in_all(tree: &mut Vec<u8>) {
     (tree[RECORD + KIND], tree[RECORD + LEAF]) = (Kind::Wildcard as u8, 2);
 }
 
-fn depth_13(tree: &mut Vec<u8>) {
+/// A tree below so many groups of one item.
+fn under(groups: usize, text: &str) -> Vec<u8> {
     let wrap = |inner, _| Tree::group(Kind::Choice, (1, Some(1)), vec![inner]);
-    *tree = (1..MOST_DEPTH).fold(parse("S[a]"), wrap).encode();
+    (0..groups).fold(parse(text), wrap).encode()
 }
 
 fn fault_then_missing(tree: &mut Vec<u8>) {
