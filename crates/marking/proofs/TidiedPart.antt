@@ -1,35 +1,41 @@
 -- The part of a buffer into which a tree was tidied: it is the tidied tree's bytes. Assumes nothing.
-use mathlib.Core.List.{List, _++_}
-use mathlib.Core.Path.{_≡_, ap, sym, _∙_}
-use Prim.Native.Nat.{ℕ, _*_, _≤_}
+use mathlib.Core.List.{List}
+use mathlib.Core.Path.{_≡_, ap, _∙_}
+use Prim.Native.Nat.{ℕ, _-_, _*_, _≤_}
 use native.Mathlib.Omega.{arith}
-use lib.ListN.{length, take, length-append}
-use lib.Seq.{take-at, length-take-le}
-use Rattle.particle.specs.Record.{recordSize}
-use Rattle.particle.specs.Tree.{sizeI, tree}
+use lib.ListN.{length, take, drop, length-take, length-drop}
+use Rattle.particle.specs.Record.{recordSize, maxRecords}
+use Rattle.particle.specs.Tree.{tree}
 use Rattle.particle.specs.Rows.{Row}
 use Rattle.particle.specs.Encode.{encode}
-use Rattle.particle.proofs.ItemEncodes.{length-encode}
+use Rattle.particle.proofs.Laws.{part-is}
 use Rattle.particle.proofs.Encoded.{encoded-row, encoded-tree}
 use Rattle.tidying.specs.Tidy.{tidy}
-use Rattle.tidying.specs.Laid.{tidied}
+use Rattle.tidying.specs.Laid.{tidied, EndsIn}
+use Rattle.sheet.specs.Layout.{leafCount, derivedCount, baseCount, derivedAt, baseAt, derivedPart, basePart}
+use Rattle.marking.specs.Buffers.{Buffer}
 
--- out starts with the tree of t, tidied, which has n records
-module _ (t rest : List ℕ) {n : ℕ} {out : List ℕ} (count : n ≡ sizeI (tidied t)) (written : out ≡ encode (tidied t) ++ rest) where
-  size : length (encode (tidied t)) ≡ recordSize * n
-  size = omega (arith, length-encode (tidied t))
+-- an array of n bytes is a buffer for t
+pub buffer : {t out : List ℕ} (n : ℕ) → length out ≡ n → length t ≤ n → n ≤ recordSize * maxRecords → Buffer t out
+buffer n e room most = record { room = omega (arith, e, room); most = omega (arith, e, most) }
 
-  pub part-within : recordSize * n ≤ length out
-  part-within = omega (arith, size, ap length written, length-append (encode (tidied t)) rest)
+-- a sheet's trees are no longer than the sheet
+within : (s : List ℕ) (at size : ℕ) → length (take size (drop at s)) ≤ length s
+within s at size = omega (arith, length-take size (drop at s), length-drop at s)
 
-  pub part-length : recordSize * n ≡ length (take (recordSize * n) out)
-  part-length = sym (length-take-le (recordSize * n) out part-within)
+pub derived-within : (s : List ℕ) → length (derivedPart s) ≤ length s
+derived-within s = within s (derivedAt (leafCount s)) (recordSize * derivedCount s)
 
-  part-is : take (recordSize * n) out ≡ encode (tidied t)
-  part-is = rw written (take-at (encode (tidied t)) rest (recordSize * n) size)
+pub base-within : (s : List ℕ) → length (basePart s) ≤ length s
+base-within s = within s (baseAt (leafCount s) (derivedCount s)) (recordSize * baseCount s)
 
-  pub part-row : Row 1 (take (recordSize * n) out)
-  part-row = rw part-is (encoded-row (tidy (tree t)))
+-- `&out[start..]`, as the borrow checker gives it
+module _ (t : List ℕ) {out : List ℕ} {start : ℕ} (e : EndsIn t out start) where
+  holds : take (length out - start) (drop start out) ≡ encode (tidied t)
+  holds = part-is out start ∙ e .holds
 
-  pub part-tree : tree (take (recordSize * n) out) ≡ tidy (tree t)
-  part-tree = ap tree part-is ∙ encoded-tree (tidy (tree t))
+  pub part-row : Row 1 (take (length out - start) (drop start out))
+  part-row = rw holds (encoded-row (tidy (tree t)))
+
+  pub part-tree : tree (take (length out - start) (drop start out)) ≡ tidy (tree t)
+  part-tree = ap tree holds ∙ encoded-tree (tidy (tree t))

@@ -8,6 +8,8 @@ ghost use Rattle.verdicts.specs.Paper.{leavesOf, tablesOf};
 ghost use Rattle.verdicts.specs.Reasons.{markOf};
 ghost use Rattle.sheet.specs.declared.SheetChecked.the-variants.{Accepted};
 ghost use Rattle.sheet.specs.Refused.{sheetRefusal};
+ghost use Rattle.sheet.specs.Layout.{derivedPart, basePart};
+ghost use Rattle.marking.specs.Buffers.{Buffer};
 ghost use Rattle.marking.specs.Answer.{markOfSheet, markSheet, markMeaning};
 use intake::Refusal;
 use particle::MaxOccurs;
@@ -17,6 +19,9 @@ use verdicts::Verdict;
 
 // The length of the longest tree in bytes.
 const CAPACITY: usize = particle::RECORD_SIZE * particle::MAX_RECORDS;
+
+// The length of a short sheet in bytes: clearing long buffers takes longer than marking it.
+const FEW: usize = 768;
 
 // What marking a sheet is answered by.
 pub enum MarkAnswer {
@@ -66,22 +71,37 @@ fn mark_tidied(d: &[u8], b: &[u8], leaves: &[u8], tables: &[u8], n: u8) -> Verdi
     restriction::restrict(d, false, b, false, leaves, tables, n)
 }
 
-// The mark of an accepted sheet: both trees are tidied first.
-fn mark_accepted(s: &[u8]) -> Verdict
+// The mark of an accepted sheet: both trees are tidied first, into the buffers.
+fn mark_in(s: &[u8], derived: &mut [u8], base: &mut [u8]) -> Verdict
     requires { ⌜ sheetRefusal (now s) ≡ Accepted ⌝ }
+    requires { ⌜ Buffer (derivedPart (now s)) (now derived) ⌝ }
+    requires { ⌜ Buffer (basePart (now s)) (now base) ⌝ }
     ensures { λ r. ⌜ markOf r ≡ markOfSheet (now (s .entry)) ⌝ }
 {
-    let mut derived = [0u8; CAPACITY];
-    let mut base = [0u8; CAPACITY];
-    let d = particle::RECORD_SIZE * tidying::normalize(sheet::derived(s), &mut derived);
-    let b = particle::RECORD_SIZE * tidying::normalize(sheet::base(s), &mut base);
+    let d = tidying::normalize_at_end(sheet::derived(s), derived);
+    let b = tidying::normalize_at_end(sheet::base(s), base);
     mark_tidied(
-        &derived[..d],
-        &base[..b],
+        &derived[d..],
+        &base[b..],
         sheet::leaves(s),
         sheet::tables(s),
         sheet::leaf_count(s),
     )
+}
+
+// The same, with buffers of its own.
+fn mark_accepted(s: &[u8]) -> Verdict
+    requires { ⌜ sheetRefusal (now s) ≡ Accepted ⌝ }
+    ensures { λ r. ⌜ markOf r ≡ markOfSheet (now (s .entry)) ⌝ }
+{
+    if s.len() <= FEW {
+        let mut derived = [0u8; FEW];
+        let mut base = [0u8; FEW];
+        return mark_in(s, &mut derived, &mut base);
+    }
+    let mut derived = [0u8; CAPACITY];
+    let mut base = [0u8; CAPACITY];
+    mark_in(s, &mut derived, &mut base)
 }
 
 // The mark of the sheet s, or its refusal.

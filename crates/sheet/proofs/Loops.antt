@@ -1,6 +1,6 @@
 -- What the loops over leaves and verdicts keep: what is left of the list. Assumes nothing.
 use mathlib.Core.Path.{_≡_, refl, ap, sym, _∙_}
-use mathlib.Core.Bool.{Bool, true, false}
+use mathlib.Core.Bool.{Bool, true, false, _&&_}
 use mathlib.Core.List.{List, [], _∷_, _++_, append-nil}
 use Prim.Native.Nat.{ℕ, suc, _+_, _*_, _-_, _≤_, _<_}
 use native.Mathlib.Numerals.{add-one}
@@ -102,26 +102,37 @@ module _ (s : List ℕ) (n : ℕ) (out : List ℕ) where
 
 -- Verdicts ---------------------------------------------------------------------
 
--- i of the verdicts are in order, and the others decide
-pub record VerdictsLeft (s : List ℕ) (i : ℕ) : Type 0 where
+-- of the first i verdicts ok says whether they are in order, and with the others it decides
+pub record VerdictsLeft (s : List ℕ) (ok : Bool) (i : ℕ) : Type 0 where
   pub within : i ≤ length s
-  pub rest : every verdictOk s ≡ every verdictOk (drop i s)
+  pub rest : every verdictOk s ≡ (ok && every verdictOk (drop i s))
+
+and-false : (b : Bool) → (b && false) ≡ false
+and-false true = refl
+and-false false = refl
+
+and-true : (b : Bool) → (b && true) ≡ b
+and-true true = refl
+and-true false = refl
 
 module _ (s : List ℕ) where
-  pub verdicts-start : VerdictsLeft s 0
+  pub verdicts-start : VerdictsLeft s true 0
   verdicts-start = record { within = omega arith; rest = refl }
 
-  module _ (i : ℕ) (v : VerdictsLeft s i) where
-    verdict-turn : i < length s → drop i s ≡ getD s i 0 ∷ drop (i + 1) s
-    verdict-turn h = rw add-one (drop-cons s i 0 h)
+  module _ {ok : Bool} {i : ℕ} (v : VerdictsLeft s ok i) where
+    verdict-turn : i < length s → every verdictOk (drop i s) ≡ (verdictOk (getD s i 0) && every verdictOk (drop (i + 1) s))
+    unfolding every
+    verdict-turn h = rw add-one (ap (every verdictOk) (drop-cons s i 0 h))
 
-    pub verdict-fails : i < length s → verdictOk (getD s i 0) ≡ false → false ≡ every verdictOk s
-    verdict-fails h f = every-fails verdictOk _ _ (v .rest) _ _ (verdict-turn h) f
+    pub verdict-fails : i < length s → verdictOk (getD s i 0) ≡ false → VerdictsLeft s false (i + 1)
+    verdict-fails h f = record { within = omega arith; rest = v .rest ∙ (ap (λ (b : Bool). ok && b) (verdict-turn h ∙ ap (λ (b : Bool). b && every verdictOk (drop (i + 1) s)) f) ∙ and-false ok) }
 
-    pub verdict-next : i < length s → verdictOk (getD s i 0) ≡ true → VerdictsLeft s (i + 1)
-    verdict-next h t = record { within = omega arith; rest = every-next verdictOk _ _ (v .rest) _ _ (verdict-turn h) t }
+    pub verdict-next : i < length s → verdictOk (getD s i 0) ≡ true → VerdictsLeft s ok (i + 1)
+    verdict-next h t = record { within = omega arith; rest = v .rest ∙ ap (λ (b : Bool). ok && b) (verdict-turn h ∙ ap (λ (b : Bool). b && every verdictOk (drop (i + 1) s)) t) }
 
-    pub verdicts-done : length s ≤ i → true ≡ every verdictOk s
+    pub verdicts-done : length s ≤ i → ok ≡ every verdictOk s
+    unfolding every
     verdicts-done h =
         let q : i ≡ length s = omega (arith, v .within) in
-        every-done verdictOk _ _ (v .rest) (rw (q, drop-length))
+        let e : every verdictOk (drop i s) ≡ true = rw (q, drop-length s) in
+        sym (v .rest ∙ (ap (λ (b : Bool). ok && b) e ∙ and-true ok))

@@ -85,16 +85,17 @@ fn verdict_ok(v: u8) -> bool
     in_range(v as usize, 140, 152)
 }
 
-// Whether each verdict of the tables is in order.
+// Whether each verdict of the tables is in order. The loop does not end at a fault, so that many bytes can be tested at once.
 pub fn verdicts_ok(tables: &[u8]) -> bool
     ensures { λ r. ⌜ r ≡ verdictsOk (now (tables .entry)) ⌝ }
 {
+    let mut ok = true;
     let mut i: usize = 0;
     while i < tables.len() {
         if !verdict_ok(tables[i]) {
-            return false;
+            ok = false;
         }
         i += 1;
     }
-    true
+    ok
 }

@@ -11,7 +11,7 @@ use Rattle.particle.specs.Rows.{Row, row}
 use Rattle.particle.specs.Encode.{encode, Faithful}
 use Rattle.particle.proofs.Laws.{run-is, run-within, row-one}
 use Rattle.particle.proofs.ItemEncodes.{length-encode}
-use Rattle.tidying.specs.Laid.{tidied, Room, Laid}
+use Rattle.tidying.specs.Laid.{tidied, Room, Laid, EndsIn}
 use Rattle.tidying.proofs.Sizes.{tidy-smaller}
 
 abbrev capacity : ℕ
@@ -47,3 +47,14 @@ module _ {t : List ℕ} (w : Row 1 t) where
     written {n} e before k =
         let m : n ≡ recordSize * sizeI (tidied t) = e ∙ (ap length part-holds ∙ length-encode (tidied t)) in
         (omega (arith, m), k ∙ rw (part-holds, take-length (encode (tidied t))))
+
+  -- in a buffer up to its end
+  module _ (f : Faithful (records t)) (out : List ℕ) (l : length t ≤ length out) (small : length out ≤ capacity) where
+    pub end-room : Room t 1 out (length out)
+    end-room = record { trees = w; faithful = f; room = omega (arith, row-fits); within = omega arith; small = small }
+
+pub ends-in : {t before out : List ℕ} {start : ℕ} → length out ≡ length before → Laid before out start (length before) (tidied t) → EndsIn t out start
+ends-in {t} {before} same a = record {
+  within = omega (arith, a .size);
+  holds = a .holds ∙ (ap (λ (z : List ℕ). encode (tidied t) ++ z) (drop-of-length-le before {i = length before} (omega arith)) ∙ append-nil (encode (tidied t)));
+}

@@ -53,3 +53,8 @@ KeepsBefore g h start later r =
 abbrev pub Closes : (g : Record) (kept : Kept) (out after : List ℕ) (r : ℕ) → Type 0
 Closes g kept out after r =
     (before : List ℕ) (end : ℕ) (x : Items) → Keeps before out kept end x → Laid before after r end (single (closed (headOf g) x))
+
+-- from `start` to its end, out has the bytes of the tree of t, tidied
+pub record EndsIn (t out : List ℕ) (start : ℕ) : Type 0 where
+  pub within : start ≤ length out
+  pub holds : drop start out ≡ encode (tidied t)

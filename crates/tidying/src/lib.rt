@@ -12,7 +12,7 @@ ghost use Rattle.particle.specs.Tree.{sizeI, headOf, records};
 ghost use Rattle.particle.specs.Rows.{Row, row};
 ghost use Rattle.particle.specs.Encode.{recordOf, encode, Faithful};
 ghost use Rattle.tidying.specs.Tidy.{splices, takesPair, tidyItems};
-ghost use Rattle.tidying.specs.Laid.{tidied, isTidied, Room, Laid, Keeps, KeepsBefore, Closes};
+ghost use Rattle.tidying.specs.Laid.{tidied, isTidied, Room, Laid, Keeps, KeepsBefore, Closes, EndsIn};
 use particle::Record;
 
 // The length of the longest tree in bytes.
@@ -177,6 +177,18 @@ fn tidy_items(t: &[u8], n: usize, g: Record, out: &mut [u8], end: usize) -> Kept
     let start = tidy_tree(t, out, later.start);
     let h = particle::record_at(&out[start..]);
     keep(g, h, start, later)
+}
+
+// The tree of t, tidied, so that it ends where out ends: answers where it starts.
+pub fn normalize_at_end(t: &[u8], out: &mut [u8]) -> usize
+    requires { ⌜ Row 1 (now t) ⌝ }
+    requires { ⌜ Faithful (records (now t)) ⌝ }
+    requires { ⌜ length (now t) ≤ length (now out) ⌝ }
+    requires { ⌜ length (now out) ≤ recordSize * maxRecords ⌝ }
+    ensures { λ r. ⌜ EndsIn (now (t .entry)) (now (out .exit)) r ⌝ }
+{
+    let end = out.len();
+    tidy_tree(t, out, end)
 }
 
 // The tree of t, tidied, at the start of out: answers its record count. Every later byte of out keeps its value.

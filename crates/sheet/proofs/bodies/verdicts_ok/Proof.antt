@@ -1,5 +1,8 @@
 -- `bodies::verdicts_ok` meets its contract. Assumes nothing.
-use Prim.Native.Nat.{_-_}
+use mathlib.Core.Bool.{Bool}
+use mathlib.Core.Logic.{⊎-elim}
+use mathlib.Core.Path.{subst⁻¹}
+use Prim.Native.Nat.{_+_, _-_}
 use native.Mathlib.Omega.{arith}
 use lib.ListN.{length}
 use borrow.Author.Needs.{needs}
@@ -9,10 +12,10 @@ use Rattle.sheet.proofs.bodies.verdicts_ok.Statement.{statement}
 use Rattle.sheet.proofs.bodies.verdicts_ok.Tie as tie
 
 abbrev Inv-loop : tie.InvT-loop
-Inv-loop tables i₀ i = VerdictsLeft tables i
+Inv-loop tables ok₀ i₀ ok i = VerdictsLeft tables ok i
 
 abbrev μ-loop : tie.MeasureT-loop
-μ-loop tables i₀ i = length tables - i
+μ-loop tables ok₀ i₀ ok i = length tables - i
 
 loop-holds : tie.Need-loop-holds Inv-loop μ-loop
 loop-holds c = verdicts-start _
@@ -23,9 +26,6 @@ shared-slice-read-verdict-ok c = omega arith
 verdict-ok-requires : tie.Need-verdict-ok-requires Inv-loop μ-loop
 verdict-ok-requires c κs = search needs
 
-returns : tie.Need-returns Inv-loop μ-loop
-returns c = verdict-fails _ _ (c .before .before .before .before .loop .inv) (c .before .before .before .loop-test .taken) (failed (c .before .verdict-ok .ensures) (c .if1 .taken))
-
 add-i : tie.Need-add-i Inv-loop μ-loop
 add-i c = omega arith
 
@@ -33,10 +33,16 @@ loop-less : tie.Need-loop-less Inv-loop μ-loop
 loop-less c = omega arith
 
 loop-again : tie.Need-loop-again Inv-loop μ-loop
-loop-again c = verdict-next _ _ (c .before .before .before .before .loop .inv) (c .before .before .before .loop-test .taken) (passed (c .before .verdict-ok .ensures) (c .if1 .left))
+loop-again c =
+    let next : Bool → Type 0 = λ o. VerdictsLeft (c .before .before .before .before .before .before .args .tables .now) o (c .before .before .before .before .loop .i + 1) in
+    let v = c .before .before .before .before .loop .inv in
+    let t = c .before .before .before .loop-test .taken in
+    ⊎-elim (λ w. subst⁻¹ next (w .1) (verdict-fails _ v t (failed (c .before .verdict-ok .ensures) (w .0 .taken))))
+    (λ w. subst⁻¹ next (w .1) (verdict-next _ v t (passed (c .before .verdict-ok .ensures) (w .0 .left))))
+    (c .if1 .came)
 
-returns-2 : tie.Need-returns-2 Inv-loop μ-loop
-returns-2 c = verdicts-done _ _ (c .before .loop .inv) (c .loop-test .left)
+returns : tie.Need-returns Inv-loop μ-loop
+returns c = verdicts-done _ (c .before .loop .inv) (c .loop-test .left)
 
 pub verdicts-ok-spec : {M : Type 1} → statement M
 verdicts-ok-spec =
@@ -47,8 +53,7 @@ verdicts-ok-spec =
     loop-holds
     shared-slice-read-verdict-ok
     verdict-ok-requires
-    returns
     add-i
     loop-less
     loop-again
-    returns-2)
+    returns)
