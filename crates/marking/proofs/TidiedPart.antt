@@ -1,17 +1,16 @@
 -- The part of a buffer into which a tree was tidied: it is the tidied tree's bytes. Assumes nothing.
 use mathlib.Core.List.{List}
-use mathlib.Core.Path.{_≡_, ap, _∙_}
-use Prim.Native.Nat.{ℕ, _-_, _*_, _≤_}
+use mathlib.Core.Path.{_≡_, ap, sym, _∙_}
+use Prim.Native.Nat.{ℕ, _*_, _≤_}
 use native.Mathlib.Omega.{arith}
 use lib.ListN.{length, take, drop, length-take, length-drop}
+use lib.Seq.{length-take-le}
 use Rattle.particle.specs.Record.{recordSize, maxRecords}
 use Rattle.particle.specs.Tree.{tree}
 use Rattle.particle.specs.Rows.{Row}
-use Rattle.particle.specs.Encode.{encode}
-use Rattle.particle.proofs.Laws.{part-is}
 use Rattle.particle.proofs.Encoded.{encoded-row, encoded-tree}
 use Rattle.tidying.specs.Tidy.{tidy}
-use Rattle.tidying.specs.Laid.{tidied, EndsIn}
+use Rattle.tidying.specs.Laid.{StartsWith}
 use Rattle.sheet.specs.Layout.{leafCount, derivedCount, baseCount, derivedAt, baseAt, derivedPart, basePart}
 use Rattle.marking.specs.Buffers.{Buffer}
 
@@ -29,13 +28,13 @@ derived-within s = within s (derivedAt (leafCount s)) (recordSize * derivedCount
 pub base-within : (s : List ℕ) → length (basePart s) ≤ length s
 base-within s = within s (baseAt (leafCount s) (derivedCount s)) (recordSize * baseCount s)
 
--- `&out[start..]`, as the borrow checker gives it
-module _ (t : List ℕ) {out : List ℕ} {start : ℕ} (e : EndsIn t out start) where
-  holds : take (length out - start) (drop start out) ≡ encode (tidied t)
-  holds = part-is out start ∙ e .holds
+-- `&out[..end]`
+module _ (t : List ℕ) {out : List ℕ} {end : ℕ} (e : StartsWith t out end) where
+  pub part-row : Row 1 (take end out)
+  part-row = rw (e .holds) (encoded-row (tidy (tree t)))
 
-  pub part-row : Row 1 (take (length out - start) (drop start out))
-  part-row = rw holds (encoded-row (tidy (tree t)))
+  pub part-tree : tree (take end out) ≡ tidy (tree t)
+  part-tree = ap tree (e .holds) ∙ encoded-tree (tidy (tree t))
 
-  pub part-tree : tree (take (length out - start) (drop start out)) ≡ tidy (tree t)
-  part-tree = ap tree holds ∙ encoded-tree (tidy (tree t))
+  pub part-length : end ≡ length (take end out)
+  part-length = sym (length-take-le end out (e .within))

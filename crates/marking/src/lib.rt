@@ -78,11 +78,11 @@ fn mark_in(s: &[u8], derived: &mut [u8], base: &mut [u8]) -> Verdict
     requires { ⌜ Buffer (basePart (now s)) (now base) ⌝ }
     ensures { λ r. ⌜ markOf r ≡ markOfSheet (now (s .entry)) ⌝ }
 {
-    let d = tidying::normalize_at_end(sheet::derived(s), derived);
-    let b = tidying::normalize_at_end(sheet::base(s), base);
+    let d = tidying::normalize_in(sheet::derived(s), derived);
+    let b = tidying::normalize_in(sheet::base(s), base);
     mark_tidied(
-        &derived[d..],
-        &base[b..],
+        &derived[..d],
+        &base[..b],
         sheet::leaves(s),
         sheet::tables(s),
         sheet::leaf_count(s),

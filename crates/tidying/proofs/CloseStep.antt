@@ -12,12 +12,12 @@ use Rattle.particle.specs.Tree.{Head, choice, Items, none, item, Particle, sing
 use Rattle.particle.specs.Encode.{recordOf}
 use Rattle.particle.specs.Write.{overwrite}
 use Rattle.particle.proofs.Heads.{pair-record}
-use Rattle.particle.proofs.RoundTrip.{head-record, then-none}
+use Rattle.particle.proofs.RoundTrip.{head-record}
 use Rattle.tidying.specs.declared.Kept.{Kept}
 use Rattle.tidying.specs.Tidy.{takesPair, lone, closed}
-use Rattle.tidying.specs.Laid.{Laid, Keeps}
+use Rattle.tidying.specs.Laid.{Laid, Removed}
 use Rattle.tidying.proofs.Steps.{takes-cases}
-use Rattle.tidying.proofs.LaidTrees.{laid-long, laid-record, laid-open, laid-write}
+use Rattle.tidying.proofs.LaidTrees.{laid-over, laid-within, laid-before, laid-long, laid-record, laid-open, laid-moved, laid-write}
 
 -- the one tree of a row
 record One (x : Items) : Type 0 where
@@ -49,61 +49,62 @@ paired h g = record { kind = h .kind; leaf = h .leaf; count = h .count; unbounde
 is-choice : (g h : Head) → takesPair g h ≡ true → h ≡ choice (pairOf h)
 is-choice = takes-cases (λ (g h : Head). h ≡ choice (pairOf h)) (λ q p e. refl)
 
-module _ (g : Record) (f : recordOf (headOf g) (g .count) ≡ g) (kept : Kept) (out before : List ℕ) (end : ℕ) (x : Items) (a : Keeps before out kept end x) where
-  -- what the group becomes is laid from s on
-  abbrev Closed : (after : List ℕ) (s : ℕ) → Type 0
-  Closed after s = Laid before after s end (single (closed (headOf g) x))
+module _ (g : Record) (f : recordOf (headOf g) (g .count) ≡ g) (kept : Kept) {out before : List ℕ} (at : ℕ) {x : Items}
+    (l : at + recordSize ≤ length before) (n : kept .count ≡ countI x) (a : Laid before out (at + recordSize) (kept .end) x) where
+  -- what the group becomes is laid from `at` to r
+  abbrev Closed : (after : List ℕ) (r : ℕ) → Type 0
+  Closed after r = Laid before after at r (single (closed (headOf g) x))
 
-  into : {after : List ℕ} {s : ℕ} (p : Particle) → closed (headOf g) x ≡ p → Laid before after s end (single p) → Closed after s
-  into p e l = rw e l
+  into : {after : List ℕ} {r : ℕ} (p : Particle) → closed (headOf g) x ≡ p → Laid before after at r (single p) → Closed after r
+  into p e c = rw e c
 
   -- the group's record is written before the items
   abbrev Headed : (after : List ℕ) → Type 0
-  Headed after = after ≡ overwrite (kept .start - recordSize) (recordBytes (counted g (kept .count))) out
+  Headed after = after ≡ overwrite at (recordBytes (counted g (kept .count))) out
 
-  over : {after : List ℕ} → recordSize ≤ kept .start → kept .start ≤ length out → Headed after → Laid before after (kept .start - recordSize) end (item (headOf g) x none)
-  over r w e =
-      let s : kept .start - recordSize + recordSize ≡ kept .start = omega arith in
-      let c : counted g (kept .count) ≡ recordOf (headOf g) (countI x) = ap (λ (q : Record). counted q (kept .count)) (sym f) ∙ ap (recordOf (headOf g)) (a .count) in
-      laid-write (headOf g) x none (rw (s, then-none x) (a .laid)) (omega arith) (e ∙ ap (λ (q : Record). overwrite (kept .start - recordSize) (recordBytes q) out) c)
+  over : {after : List ℕ} → Headed after → Laid before after at (kept .end) (item (headOf g) x none)
+  over e =
+      let c : counted g (kept .count) ≡ recordOf (headOf g) (countI x) = ap (λ (q : Record). counted q (kept .count)) (sym f) ∙ ap (recordOf (headOf g)) n in
+      laid-write at l a (headOf g) (e ∙ ap (λ (q : Record). overwrite at (recordBytes q) out) c)
 
-  pub many : {after : List ℕ} → (kept .count ≡ 1 → ⊥) → recordSize ≤ kept .start → kept .start ≤ length out → Headed after → Closed after (kept .start - recordSize)
-  many n r w e = into (record { head = headOf g; items = x }) (closed-many (headOf g) x (λ z. n (a .count ∙ z))) (over r w e)
+  pub many : {after : List ℕ} → (kept .count ≡ 1 → ⊥) → Headed after → Closed after (kept .end)
+  many m e = into (record { head = headOf g; items = x }) (closed-many (headOf g) x (λ z. m (n ∙ z))) (over e)
 
   module _ (o : kept .count ≡ 1) where
     one : One x
-    one = one-of x (sym (a .count) ∙ o)
+    one = one-of x (sym n ∙ o)
 
-    alone : Laid before out (kept .start) end (item (one .head) (one .items) none)
-    alone = rw (one .is) at (a .laid)
+    alone : Laid before out (at + recordSize) (kept .end) (item (one .head) (one .items) none)
+    alone = rw (one .is) at a
 
     closed-is : closed (headOf g) x ≡ closed (headOf g) (item (one .head) (one .items) none)
     closed-is = ap (closed (headOf g)) (one .is)
 
-    pub takes-place : isOnce (rangeOf g) ≡ true → Closed out (kept .start)
-    takes-place u =
+    pub takes-place : {after : List ℕ} → isOnce (rangeOf g) ≡ true → Removed out after at (kept .end) → Closed after (kept .end - recordSize)
+    takes-place u r =
         let u′ : isOnce (pairOf (headOf g)) ≡ true = ap isOnce (pair-record g) ∙ u in
-        into (record { head = one .head; items = one .items }) (closed-is ∙ rw (u′, closed)) alone
+        into (record { head = one .head; items = one .items }) (closed-is ∙ rw (u′, closed)) (laid-moved at l alone r)
 
-    module _ (u : isOnce (rangeOf g) ≡ false) (h : Record) (eh : h ≡ recordAt (drop (kept .start) out)) where
+    module _ (u : isOnce (rangeOf g) ≡ false) (h : Record) (eh : h ≡ recordAt (drop (at + recordSize) out)) where
       u′ : isOnce (pairOf (headOf g)) ≡ false
       u′ = ap isOnce (pair-record g) ∙ u
 
       h-is : h ≡ recordOf (one .head) (countI (one .items))
-      h-is = eh ∙ laid-record alone
+      h-is = eh ∙ laid-record l alone
 
       head-is : headOf h ≡ one .head
       head-is = ap headOf h-is ∙ head-record (one .head) (countI (one .items))
 
-      pub takes-pair : {after : List ℕ} → takesPair (headOf g) (headOf h) ≡ true → after ≡ overwrite (kept .start) (recordBytes (paired h g)) out → Closed after (kept .start)
-      takes-pair t e =
+      pub takes-pair : {middle after : List ℕ} → takesPair (headOf g) (headOf h) ≡ true → middle ≡ overwrite (at + recordSize) (recordBytes (paired h g)) out → Removed middle after at (kept .end) → Closed after (kept .end - recordSize)
+      takes-pair {middle} t e r =
           let t′ : takesPair (headOf g) (one .head) ≡ true = ap (takesPair (headOf g)) (sym head-is) ∙ t in
           let h-is′ : h ≡ recordOf (choice (pairOf (one .head))) (countI (one .items)) = h-is ∙ ap (λ (q : Head). recordOf q (countI (one .items))) (is-choice (headOf g) (one .head) t′) in
           let c : paired h g ≡ recordOf (choice (pairOf (headOf g))) (countI (one .items)) = ap (λ (q : Record). paired q g) h-is′ ∙ ap (λ (q : Record). paired (recordOf (choice (pairOf (one .head))) (countI (one .items))) q) (sym f) in
-          into (record { head = choice (pairOf (headOf g)); items = one .items }) (closed-is ∙ rw (u′, closed, t′, lone))
-          (laid-write (choice (pairOf (headOf g))) (one .items) none (laid-open alone) (omega (arith, laid-long alone)) (e ∙ ap (λ (q : Record). overwrite (kept .start) (recordBytes q) out) c))
+          let w : at + recordSize + recordSize ≤ length out = omega (arith, laid-long l alone, laid-within l alone) in
+          let b : Laid out middle (at + recordSize) (kept .end) (item (choice (pairOf (headOf g))) (one .items) none) = laid-write (at + recordSize) w (laid-open l alone) (choice (pairOf (headOf g))) (e ∙ ap (λ (q : Record). overwrite (at + recordSize) (recordBytes q) out) c) in
+          into (record { head = choice (pairOf (headOf g)); items = one .items }) (closed-is ∙ rw (u′, closed, t′, lone)) (laid-moved at l (laid-over (laid-before l alone) b) r)
 
-      pub stays : {after : List ℕ} → takesPair (headOf g) (headOf h) ≡ false → recordSize ≤ kept .start → kept .start ≤ length out → Headed after → Closed after (kept .start - recordSize)
-      stays t r w e =
+      pub stays : {after : List ℕ} → takesPair (headOf g) (headOf h) ≡ false → Headed after → Closed after (kept .end)
+      stays t e =
           let t′ : takesPair (headOf g) (one .head) ≡ false = ap (takesPair (headOf g)) (sym head-is) ∙ t in
-          into (record { head = headOf g; items = x }) (closed-is ∙ rw (u′, closed, t′, lone) (ap (λ (y : Items). record { head = headOf g; items = y }) (sym (one .is)))) (over r w e)
+          into (record { head = headOf g; items = x }) (closed-is ∙ rw (u′, closed, t′, lone) (ap (λ (y : Items). record { head = headOf g; items = y }) (sym (one .is)))) (over e)

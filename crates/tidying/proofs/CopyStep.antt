@@ -1,42 +1,40 @@
 -- A tree copied as it is: its run of records is its encoding. Assumes nothing.
-use mathlib.Core.Path.{_≡_, sym, _∙_}
-use mathlib.Core.List.{List, [], _++_, append-nil}
-use Prim.Native.Nat.{ℕ, _-_, _≤_}
+use mathlib.Core.Path.{_≡_, ap, sym, _∙_}
+use mathlib.Core.List.{List, [], _++_, append-nil, append-assoc}
+use Prim.Native.Nat.{ℕ, _+_, _-_, _≤_}
 use native.Mathlib.Omega.{arith}
-use borrow.Rule.Slice.PartMut.{midOf, putMid, mid-len, post-is}
-use lib.ListN.{length, take, drop, drop-of-length-le}
-use lib.Seq.{length-take-le, take-length, drop-at}
+use borrow.Rule.Slice.PartMut.{midOf, postOf, putMid, mid-len}
+use lib.ListN.{length, take, drop, length-append, drop-of-length-le}
+use lib.Seq.{length-take-le, take-length, take-at}
 use Rattle.particle.specs.Rows.{row, runSize}
 use Rattle.particle.specs.Encode.{encode, Bytes}
 use Rattle.particle.proofs.Laws.{run-is, run-within}
-use Rattle.particle.proofs.ItemEncodes.{run-encodes}
+use Rattle.particle.proofs.ItemEncodes.{length-encode, run-encodes}
 use Rattle.tidying.specs.Laid.{Room, Laid}
 
--- the part of out that the n bytes before `end` are, as the borrow checker gives it
-abbrev place : (n end : ℕ) → List ℕ → List ℕ
-place n end out = midOf (end - n) (end - (end - n)) out
-
-module _ {t out : List ℕ} {end : ℕ} (q : Room t 1 out end) {n : ℕ} (e : n ≡ runSize t) where
-  pub in-out : n ≤ end
+module _ {t out : List ℕ} {at : ℕ} (q : Room t 1 out at) {n : ℕ} (e : n ≡ runSize t) where
+  pub in-out : at + n ≤ length out
   in-out = omega (arith, q .room, run-is t)
 
   pub run-length : n ≡ length (take n t)
   run-length = sym (length-take-le n t (rw e (run-within t)))
 
-  place-length : length (place n end out) ≡ n
-  place-length = omega (arith, in-out, mid-len (end - n) end out (q .within))
+  -- the part of out that it is copied to, as the borrow checker gives it
+  place-length : length (midOf at (at + n - at) out) ≡ n
+  place-length = omega (arith, in-out, mid-len at (at + n) out in-out)
 
-  pub run-fits : length (take n t) ≤ length (place n end out)
+  pub run-fits : length (take n t) ≤ length (midOf at (at + n - at) out)
   run-fits = omega (arith, run-length, place-length)
 
-  pub copied : Bytes t → {s : List ℕ} → s ≡ take (length (take n t)) (take n t) ++ drop (length (take n t)) (place n end out)
-      → Laid out (putMid (end - n) (end - (end - n)) out s) (end - n) end (row 1 t)
+  pub copied : Bytes t → {s : List ℕ} → s ≡ take (length (take n t)) (take n t) ++ drop (length (take n t)) (midOf at (at + n - at) out)
+      → Laid out (putMid at (at + n - at) out s) at (at + n) (row 1 t)
   copied b {s} k =
-      let nothing : drop (length (take n t)) (place n end out) ≡ [] = drop-of-length-le (place n end out) {i = length (take n t)} (omega (arith, run-length, place-length)) in
+      let nothing : drop (length (take n t)) (midOf at (at + n - at) out) ≡ [] = drop-of-length-le (midOf at (at + n - at) out) {i = length (take n t)} (omega (arith, run-length, place-length)) in
       let s-is : s ≡ encode (row 1 t) = k ∙ (rw (nothing, append-nil (take (length (take n t)) (take n t)), take-length (take n t), e) (run-encodes t b (q .trees) (q .faithful))) in
+      let long : length (take at out ++ s) ≡ at + n = omega (arith, length-append (take at out) s, length-take-le at out (omega (arith, in-out)), ap length s-is, length-encode (row 1 t), run-is t) in
       record {
-        size = omega (arith, in-out, run-is t);
+        size = omega (arith, run-is t);
         holds =
-            drop-at (take (end - n) out) (s ++ drop (end - (end - n)) (drop (end - n) out)) (end - n) (length-take-le (end - n) out (omega (arith, q .within)))
-            ∙ rw (s-is, post-is (end - n) end out (omega arith));
+            ap (take (at + n)) (sym (append-assoc (take at out) s (postOf at (at + n - at) out)))
+            ∙ (take-at (take at out ++ s) (postOf at (at + n - at) out) (at + n) long ∙ ap (λ (l : List ℕ). take at out ++ l) s-is);
       }

@@ -1,55 +1,61 @@
 -- An item among those that a group keeps: dropped, opened or left as it is. Assumes nothing.
-use mathlib.Core.Path.{_≡_, ap, sym, _∙_}
-use mathlib.Core.Bool.{true, false}
+use mathlib.Core.Path.{_≡_, refl, ap, sym, _∙_}
+use mathlib.Core.Bool.{Bool, true, false}
 use mathlib.Core.List.{List}
-use Prim.Native.Nat.{ℕ, _+_}
+use Prim.Native.Nat.{ℕ, _+_, _-_, _≤_}
 use native.Mathlib.Omega.{arith}
-use lib.ListN.{drop}
+use lib.ListN.{length, drop}
 use Rattle.particle.specs.declared.Occurs.{Occurs}
 use Rattle.particle.specs.declared.Record.{Record}
 use Rattle.particle.specs.Occurs.{isZero}
 use Rattle.particle.specs.Record.{recordSize, recordAt, rangeOf}
-use Rattle.particle.specs.Tree.{Items, Particle, item, single, pairOf, countI, headOf}
+use Rattle.particle.specs.Tree.{Head, Items, none, Particle, item, single, pairOf, _then_, countI, headOf}
 use Rattle.particle.specs.Encode.{recordOf}
 use Rattle.particle.proofs.Heads.{pair-record}
-use Rattle.particle.proofs.RoundTrip.{head-record}
-use Rattle.particle.proofs.EncodeParts.{count-then}
-use Rattle.tidying.specs.declared.Kept.{Kept}
+use Rattle.particle.proofs.RoundTrip.{head-record, then-none}
 use Rattle.tidying.specs.Tidy.{splices, put, keep}
-use Rattle.tidying.specs.Laid.{Laid, Keeps}
-use Rattle.tidying.proofs.LaidTrees.{laid-both, laid-after, laid-record, laid-open}
+use Rattle.tidying.specs.Laid.{Laid, Removed}
+use Rattle.tidying.proofs.LaidTrees.{laid-none, laid-over, laid-within, laid-before, laid-record, laid-long, laid-open, laid-moved}
 
-module _ (g h : Record) (start : ℕ) (later : Kept) (before middle out : List ℕ) (end : ℕ) (x : Particle) (y : Items)
-    (a : Keeps before middle later end y) (b : Laid middle out start (later .start) (single x)) (e : h ≡ recordAt (drop start out)) where
-  both : Laid before out start end (item (x .head) (x .items) y)
-  both = laid-both (a .laid) b
+-- what is kept of an item stands before what is kept of the later ones
+pub keep-then : (g : Head) (x : Particle) (y : Items) → keep g x y ≡ keep g x none then y
+unfolding _then_
+keep-then g x y = go (isZero (pairOf (x .head) .max)) (splices g (x .head))
+  where
+    go : (z s : Bool) → elim z as (λ _. Items) [ true ↦ y | false ↦ elim s as (λ _. Items) [ true ↦ x .items then y | false ↦ item (x .head) (x .items) y ] ]
+        ≡ (elim z as (λ _. Items) [ true ↦ none | false ↦ elim s as (λ _. Items) [ true ↦ x .items then none | false ↦ item (x .head) (x .items) none ] ]) then y
+    go true s = refl
+    go false true = rw (then-none (x .items))
+    go false false = refl
+
+module _ (g : Record) {before out : List ℕ} {start end : ℕ} {x : Particle} (l : start ≤ length before) (b : Laid before out start end (single x)) (count : ℕ) (h : Record) (e : h ≡ recordAt (drop start out)) where
+  -- what is laid down, and how many they are
+  abbrev Kept : (after : List ℕ) (end′ count′ : ℕ) → Type 0
+  Kept after end′ count′ = Laid before after start end′ (keep (headOf g) x none) × (count′ ≡ count + countI (keep (headOf g) x none))
 
   h-is : h ≡ recordOf (x .head) (countI (x .items))
-  h-is = e ∙ laid-record both
+  h-is = e ∙ laid-record l b
 
   head-is : headOf h ≡ x .head
   head-is = ap headOf h-is ∙ head-record (x .head) (countI (x .items))
 
-  pair-is : pairOf (x .head) ≡ rangeOf h
-  pair-is = ap pairOf (sym head-is) ∙ pair-record h
+  zero-is : isZero (pairOf (x .head) .max) ≡ isZero (rangeOf h .max)
+  zero-is = ap (λ (p : Occurs). isZero (p .max)) (ap pairOf (sym head-is) ∙ pair-record h)
 
-  pub dropped : isZero (rangeOf h .max) ≡ true → Keeps before out later end (keep (headOf g) x y)
-  dropped z =
-      let z′ : isZero (pairOf (x .head) .max) ≡ true = ap (λ (p : Occurs). isZero (p .max)) pair-is ∙ z in
-      rw (z′, keep) (record { count = a .count; laid = laid-after (a .laid) b })
+  pub dropped : isZero (rangeOf h .max) ≡ true → Kept out start count
+  unfolding countI
+  dropped z = rw (zero-is ∙ z, keep) (laid-over (laid-before l b) (laid-none out start), omega arith)
 
   module _ (z : isZero (rangeOf h .max) ≡ false) where
-    kept : isZero (pairOf (x .head) .max) ≡ false
-    kept = ap (λ (p : Occurs). isZero (p .max)) pair-is ∙ z
-
-    pub opened : splices (headOf g) (headOf h) ≡ true → Keeps before out (record { count = later .count + h .count; start = start + recordSize }) end (keep (headOf g) x y)
-    opened s =
+    pub opened : {after : List ℕ} → splices (headOf g) (headOf h) ≡ true → Removed out after start end → Kept after (end - recordSize) (count + h .count)
+    opened s r =
         let s′ : splices (headOf g) (x .head) ≡ true = ap (splices (headOf g)) (sym head-is) ∙ s in
-        let n : h .count ≡ countI (x .items) = ap (λ (r : Record). r .count) h-is in
-        rw (kept, keep, s′, put) (record { count = omega (arith, a .count, count-then (x .items) y); laid = laid-open both })
+        let n : h .count ≡ countI (x .items) = ap (λ (q : Record). q .count) h-is in
+        let w : start + recordSize ≤ length out = omega (arith, laid-long l b, laid-within l b) in
+        rw (zero-is ∙ z, keep, s′, put, then-none (x .items)) (laid-over (laid-before l b) (laid-moved start w (laid-open l b) r), omega (arith, n))
 
-    pub stays : splices (headOf g) (headOf h) ≡ false → Keeps before out (record { count = later .count + 1; start = start }) end (keep (headOf g) x y)
+    pub stays : splices (headOf g) (headOf h) ≡ false → Kept out end (count + 1)
     unfolding countI
     stays s =
         let s′ : splices (headOf g) (x .head) ≡ false = ap (splices (headOf g)) (sym head-is) ∙ s in
-        rw (kept, keep, s′, put) (record { count = omega (arith, a .count); laid = both })
+        rw (zero-is ∙ z, keep, s′, put) (b, omega arith)

@@ -8,6 +8,7 @@ pub mod Examples
 pub mod TidyTrees
 pub mod KindTests
 pub mod LaidTrees
+pub mod MoveStep
 pub mod KeepStep
 pub mod CloseStep
 pub mod ItemsStep

@@ -66,8 +66,9 @@ by-depth : Measure depthOf (λ a b. max (suc a) b)
 unfolding depthOf
 by-depth = record { first = λ h k r. refl; both = then-depth; left = λ a b. omega arith; right = λ a b. omega arith; grows = λ p q. omega arith }
 
-pub tidy-items-smaller : (g : Head) (x : Items) → sizeI (tidyItems g x) ≤ sizeI x
-tidy-items-smaller = items-least by-size
+pub keep-smaller : (g : Head) (x : Particle) → sizeI (keep g x none) ≤ sizeI (single x)
+unfolding sizeI
+keep-smaller g x = keep-least by-size g x none
 
 pub tidy-smaller : (x : Particle) → sizeI (single (tidy x)) ≤ sizeI (single x)
 tidy-smaller = tidy-least by-size

@@ -1,23 +1,22 @@
--- The calls of `tidy_tree`, and what it leaves: a tree as it is, or a group closed over its items. Assumes nothing.
+-- What `tidy_tree` leaves where it calls nothing: a tree without items, or one that is copied as it is. Assumes nothing.
 use mathlib.Core.Path.{_≡_, refl, ap, sym, _∙_}
 use mathlib.Core.Bool.{true, false, true≢false, false≢true}
 use mathlib.Core.List.{List}
-use Prim.Native.Nat.{ℕ, suc, _+_, _*_, _≤_, _<_}
+use Prim.Native.Nat.{ℕ, suc, _+_, _≤_}
 use native.Mathlib.Omega.{arith}
 use lib.ListN.{length}
 use Rattle.particle.specs.declared.Record.{Record}
-use Rattle.particle.specs.Record.{recordSize, maxRecords, recordAt}
-use Rattle.particle.specs.Tree.{Head, element, wildcard, sequence, choice, all, Items, Particle, sizeI, headOf, tree}
+use Rattle.particle.specs.Record.{recordSize, recordAt, recordBytes}
+use Rattle.particle.specs.Tree.{Head, element, wildcard, sequence, choice, all, Items, none, item, Particle, single, takeI, countI, sizeI, headOf, tree}
 use Rattle.particle.specs.Rows.{row, itemsPart}
 use Rattle.particle.specs.Encode.{recordOf}
-use Rattle.particle.proofs.Trees.{countI-le}
-use Rattle.particle.proofs.Laws.{tree-is, items-row, row-one, items-shorter}
-use Rattle.particle.proofs.EncodeParts.{first-faithful, items-faithful}
-use Rattle.tidying.specs.declared.Kept.{Kept}
+use Rattle.particle.specs.Write.{overwrite}
+use Rattle.particle.proofs.Laws.{tree-is, row-one, run-is}
+use Rattle.particle.proofs.EncodeParts.{first-faithful}
+use Rattle.tidying.specs.declared.Written.{Written}
 use Rattle.tidying.specs.Tidy.{closed, settle, tidyItems, tidy}
-use Rattle.tidying.specs.Laid.{tidied, isTidied, Room, Laid, Keeps, Closes}
-use Rattle.tidying.proofs.Sizes.{tidy-items-smaller}
-use Rattle.tidying.proofs.ItemsStep.{ofTree, ofRow}
+use Rattle.tidying.specs.Laid.{tidied, isTidied, Room, Writes}
+use Rattle.tidying.proofs.LaidTrees.{laid-none, laid-write}
 
 -- a sequence or choice is closed over its tidied items, any other tree is left as it is
 tidy-group : (x : Particle) → isTidied (x .head) ≡ true → tidy x ≡ closed (x .head) (tidyItems (x .head) (x .items))
@@ -42,45 +41,48 @@ tidy-other x e = go (x .head) (x .items) (tidyItems (x .head) (x .items)) e
     go (choice p) k t e = absurd (true≢false e)
     go (all p) k t e = refl
 
-module _ {t out : List ℕ} {end : ℕ} (q : Room t 1 out end) {g : Record} (e : g ≡ recordAt t) where
-  tree-parts : tree t ≡ record { head = headOf g; items = row (g .count) (itemsPart t) }
+-- a tree without items is tidy
+tidy-bare : (h : Head) → tidy (record { head = h; items = none }) ≡ record { head = h; items = none }
+unfolding tidy tidyItems
+tidy-bare (element l p) = refl
+tidy-bare (wildcard l p) = refl
+tidy-bare (sequence p) = refl
+tidy-bare (choice p) = refl
+tidy-bare (all p) = refl
+
+module _ {t out : List ℕ} {at : ℕ} (q : Room t 1 out at) {g : Record} (e : g ≡ recordAt t) where
+  pub tree-parts : tree t ≡ record { head = headOf g; items = row (g .count) (itemsPart t) }
   tree-parts = rw e (tree-is (q .trees))
 
+  pub tree-size : sizeI (row 1 t) ≡ suc (sizeI (row (g .count) (itemsPart t)))
+  unfolding sizeI
+  tree-size = rw (row-one (q .trees), tree-parts) (omega arith)
+
+  pub record-fits : at + recordSize ≤ length out
+  record-fits = omega (arith, q .room, tree-size)
+
+  pub record-is : recordOf (headOf g) (g .count) ≡ g
+  record-is = rw e (first-faithful (q .trees) (q .faithful))
+
+  -- the record alone
+  pub bare : {after : List ℕ} → g .count ≡ 0 → after ≡ overwrite at (recordBytes g) out → Writes t out after at (tidied t) (record { read = recordSize; end = at + recordSize })
+  unfolding takeI countI sizeI
+  bare {after} z w =
+      let p : tree t ≡ record { head = headOf g; items = none } = tree-parts ∙ rw z in
+      let x : tidied t ≡ item (headOf g) none none = ap (λ (y : Particle). single (tidy y)) p ∙ ap single (tidy-bare (headOf g)) in
+      let c : g ≡ recordOf (headOf g) 0 = sym record-is ∙ ap (recordOf (headOf g)) z in
+      record {
+        read = sym (run-is t ∙ rw (row-one (q .trees), p) (omega arith));
+        laid = rw x (laid-write at record-fits (laid-none out (at + recordSize)) (headOf g) (w ∙ ap (λ (r : Record). overwrite at (recordBytes r) out) c));
+      }
+
   -- the tree as it is
-  pub unaltered : {after : List ℕ} {r : ℕ} → isTidied (headOf g) ≡ false → Laid out after r end (row 1 t) → Laid out after r end (tidied t)
+  pub unaltered : {after : List ℕ} {r : Written} → isTidied (headOf g) ≡ false → Writes t out after at (row 1 t) r → Writes t out after at (tidied t) r
   unaltered n a =
       let h : isTidied (tree t .head) ≡ false = ap (λ (x : Particle). isTidied (x .head)) tree-parts ∙ n in
-      let x : tidy (tree t) ≡ tree t = tidy-other (tree t) h in
-      rw (x, ← row-one (q .trees)) a
+      let x : row 1 t ≡ tidied t = row-one (q .trees) ∙ ap single (sym (tidy-other (tree t) h)) in
+      record { read = a .read; laid = rw x at (a .laid) }
 
-  sizes : sizeI (row 1 t) ≡ suc (sizeI (row (g .count) (itemsPart t)))
-  unfolding sizeI
-  sizes = rw (row-one (q .trees), tree-parts) (omega arith)
-
-  module _ {s : List ℕ} (p : s ≡ itemsPart t) where
-    pub to-items : {m : ℕ} → ofTree t ≡ m → (ofRow s < m) × Room s (g .count) out end
-    to-items m = rw p (
-      omega (arith, items-shorter (q .trees)),
-      record {
-        trees = rw e (items-row (q .trees));
-        faithful = items-faithful (q .trees) (q .faithful);
-        room = omega (arith, q .room, sizes);
-        within = q .within;
-        small = q .small;
-      },
-    )
-
-    -- the items are laid down
-    module _ {middle : List ℕ} {kept : Kept} (same : length middle ≡ length out) (a : Keeps out middle kept end (tidyItems (headOf g) (row (g .count) s))) where
-      pub close-asks : (recordOf (headOf g) (g .count) ≡ g) × ((recordSize ≤ kept .start) × ((kept .start + recordSize * kept .count ≤ length middle) × (kept .count ≤ maxRecords)))
-      close-asks =
-          let x = tidyItems (headOf g) (row (g .count) s) in
-          let fewer : sizeI x ≤ sizeI (row (g .count) (itemsPart t)) = rw (← p) (tidy-items-smaller (headOf g) (row (g .count) s)) in
-          let l = a .laid .size in
-          (rw e (first-faithful (q .trees) (q .faithful)), (omega (arith, q .room, sizes, fewer), (omega (arith, q .within, a .count, countI-le x), omega (arith, q .small, a .count, countI-le x))))
-
-      pub closes : {after : List ℕ} {r : ℕ} → isTidied (headOf g) ≡ true → Closes g kept middle after r → Laid out after r end (tidied t)
-      closes y k =
-          let x = tidyItems (headOf g) (row (g .count) s) in
-          let c : tidy (tree t) ≡ closed (headOf g) x = ap tidy tree-parts ∙ (tidy-group _ y ∙ ap (λ (l : List ℕ). closed (headOf g) (tidyItems (headOf g) (row (g .count) l))) (sym p)) in
-          rw c (k out end x a)
+  -- a group closed over its tidied items
+  pub tidied-group : isTidied (headOf g) ≡ true → tidied t ≡ single (closed (headOf g) (tidyItems (headOf g) (row (g .count) (itemsPart t))))
+  tidied-group y = ap (λ (x : Particle). single (tidy x)) tree-parts ∙ ap single (tidy-group _ y)

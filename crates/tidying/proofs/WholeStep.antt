@@ -1,60 +1,45 @@
--- `normalize`: the whole tree, tidied in an array as long as the longest tree, and its copy. Assumes nothing.
-use mathlib.Core.Path.{_≡_, ap, _∙_}
-use mathlib.Core.List.{List, _++_, append-nil}
-use Prim.Native.Nat.{ℕ, _*_, _-_, _/_, _≤_}
+-- `normalize_in` and `normalize`: the whole tree, from the start of a buffer on, and its copy. Assumes nothing.
+use mathlib.Core.Path.{_≡_, ap, sym, _∙_}
+use mathlib.Core.List.{List, _++_}
+use Prim.Native.Nat.{ℕ, _*_, _/_, _≤_}
 use native.Mathlib.Omega.{arith}
-use lib.ListN.{length, take, drop, length-drop, drop-of-length-le}
-use lib.Seq.{take-all, take-length}
+use lib.ListN.{length, take, drop}
+use lib.Seq.{take-length, length-take-le}
 use Rattle.particle.specs.Record.{recordSize, maxRecords}
 use Rattle.particle.specs.Tree.{sizeI, records, tree}
 use Rattle.particle.specs.Rows.{Row, row}
 use Rattle.particle.specs.Encode.{encode, Faithful}
 use Rattle.particle.proofs.Laws.{run-is, run-within, row-one}
 use Rattle.particle.proofs.ItemEncodes.{length-encode}
-use Rattle.tidying.specs.Laid.{tidied, Room, Laid, EndsIn}
+use Rattle.tidying.specs.declared.Written.{Written}
+use Rattle.tidying.specs.Laid.{tidied, Room, Writes, StartsWith}
 use Rattle.tidying.proofs.Sizes.{tidy-smaller}
-
-abbrev capacity : ℕ
-capacity = recordSize * maxRecords
-
--- `&work[start..]` of the array, as the borrow checker gives it
-abbrev from : ℕ → List ℕ → List ℕ
-from start work = take (capacity - start) (drop start work)
+use Rattle.tidying.proofs.LaidTrees.{laid-within}
 
 module _ {t : List ℕ} (w : Row 1 t) where
   row-fits : recordSize * sizeI (row 1 t) ≤ length t
   row-fits = omega (arith, run-is t, run-within t)
 
-  module _ (f : Faithful (records t)) (l : length t ≤ capacity) (empty : List ℕ) (full : length empty ≡ capacity) where
-    pub whole-room : Room t 1 empty capacity
-    whole-room = record { trees = w; faithful = f; room = omega (arith, row-fits); within = omega arith; small = omega arith }
+  pub whole-room : {out : List ℕ} → Faithful (records t) → length t ≤ length out → length out ≤ recordSize * maxRecords → Room t 1 out 0
+  whole-room f l small = record { trees = w; faithful = f; room = omega (arith, row-fits); small = small }
 
-  -- the array before and after, and the part that is copied
-  module _ {empty work : List ℕ} (full : length empty ≡ capacity) (same : length work ≡ length empty) {start : ℕ} (a : Laid empty work start capacity (tidied t)) where
-    part-holds : from start work ≡ encode (tidied t)
-    part-holds =
-        take-all (capacity - start) (drop start work) (omega (arith, length-drop start work))
-        ∙ (a .holds ∙ (ap (λ (z : List ℕ). encode (tidied t) ++ z) (drop-of-length-le empty {i = capacity} (omega arith)) ∙ append-nil (encode (tidied t))))
+  -- what was written, and its copy
+  module _ {work : List ℕ} {end : ℕ} (a : StartsWith t work end) where
+    pub end-is : end ≡ recordSize * sizeI (tidied t)
+    end-is = sym (length-take-le end work (a .within)) ∙ (ap length (a .holds) ∙ length-encode (tidied t))
 
-    pub part-fits : length (from start work) ≤ length t
-    part-fits =
+    pub end-fits : end ≤ length t
+    end-fits =
         let fewer : sizeI (tidied t) ≤ sizeI (row 1 t) = rw (row-one w) (tidy-smaller (tree t)) in
-        omega (arith, ap length part-holds, length-encode (tidied t), fewer, row-fits)
+        omega (arith, end-is, fewer, row-fits)
 
-    pub written : {n : ℕ} → n ≡ length (from start work) → (before : List ℕ) {after : List ℕ}
-        → after ≡ take (length (from start work)) (from start work) ++ drop (length (from start work)) before
+    pub part-length : end ≡ length (take end work)
+    part-length = sym (length-take-le end work (a .within))
+
+    pub written : {n : ℕ} → n ≡ length (take end work) → (before : List ℕ) {after : List ℕ}
+        → after ≡ take (length (take end work)) (take end work) ++ drop (length (take end work)) before
         → (n / recordSize ≡ sizeI (tidied t)) × (after ≡ encode (tidied t) ++ drop (length (encode (tidied t))) before)
-    written {n} e before k =
-        let m : n ≡ recordSize * sizeI (tidied t) = e ∙ (ap length part-holds ∙ length-encode (tidied t)) in
-        (omega (arith, m), k ∙ rw (part-holds, take-length (encode (tidied t))))
+    written {n} e before k = (omega (arith, e, part-length, end-is), k ∙ rw (a .holds, take-length (encode (tidied t))))
 
-  -- in a buffer up to its end
-  module _ (f : Faithful (records t)) (out : List ℕ) (l : length t ≤ length out) (small : length out ≤ capacity) where
-    pub end-room : Room t 1 out (length out)
-    end-room = record { trees = w; faithful = f; room = omega (arith, row-fits); within = omega arith; small = small }
-
-pub ends-in : {t before out : List ℕ} {start : ℕ} → length out ≡ length before → Laid before out start (length before) (tidied t) → EndsIn t out start
-ends-in {t} {before} same a = record {
-  within = omega (arith, a .size);
-  holds = a .holds ∙ (ap (λ (z : List ℕ). encode (tidied t) ++ z) (drop-of-length-le before {i = length before} (omega arith)) ∙ append-nil (encode (tidied t)));
-}
+pub starts-with : {t before out : List ℕ} {r : Written} → Writes t before out 0 (tidied t) r → StartsWith t out (r .end)
+starts-with w = record { within = laid-within (omega arith) (w .laid); holds = w .laid .holds }

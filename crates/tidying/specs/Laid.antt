@@ -1,15 +1,16 @@
--- What the functions that tidy ask and leave: trees written so that they end at a place of a buffer. Assumes nothing: these are definitions.
+-- What the functions that tidy ask and leave: trees written one after another into a buffer. Assumes nothing: these are definitions.
 use mathlib.Core.Path.{_≡_}
 use mathlib.Core.Bool.{Bool, true, false}
 use mathlib.Core.List.{List, _++_}
-use Prim.Native.Nat.{ℕ, _+_, _*_, _≤_}
-use lib.ListN.{length, drop}
+use Prim.Native.Nat.{ℕ, _+_, _*_, _-_, _≤_}
+use lib.ListN.{length, take, drop}
 use Rattle.particle.specs.declared.Record.{Record}
-use Rattle.particle.specs.Record.{recordSize, maxRecords, recordAt}
-use Rattle.particle.specs.Tree.{Head, element, wildcard, sequence, choice, all, Items, Particle, single, countI, sizeI, headOf, records, tree}
-use Rattle.particle.specs.Rows.{Row, row}
+use Rattle.particle.specs.Record.{recordSize, maxRecords}
+use Rattle.particle.specs.Tree.{Head, element, wildcard, sequence, choice, all, Items, none, Particle, single, countI, sizeI, headOf, records, tree}
+use Rattle.particle.specs.Rows.{Row, row, runSize}
 use Rattle.particle.specs.Encode.{encode, Faithful}
 use Rattle.tidying.specs.declared.Kept.{Kept}
+use Rattle.tidying.specs.declared.Written.{Written}
 use Rattle.tidying.specs.Tidy.{keep, closed, tidy}
 
 -- the tree that t starts with, tidied
@@ -24,37 +25,40 @@ isTidied (sequence p) = true
 isTidied (choice p) = true
 isTidied (all p) = false
 
--- t has n trees, and there is room for their records in out before `end`
-pub record Room (t : List ℕ) (n : ℕ) (out : List ℕ) (end : ℕ) : Type 0 where
+-- t has n trees, and there is room for their records in out from `at` on
+pub record Room (t : List ℕ) (n : ℕ) (out : List ℕ) (at : ℕ) : Type 0 where
   pub trees : Row n t
   pub faithful : Faithful (records t)
-  pub room : recordSize * sizeI (row n t) ≤ end
+  pub room : at + recordSize * sizeI (row n t) ≤ length out
+  pub small : length out ≤ recordSize * maxRecords
+
+-- up to `at` out has what the buffer had before, and from there to `end` the bytes of x
+pub record Laid (before out : List ℕ) (at end : ℕ) (x : Items) : Type 0 where
+  pub size : at + recordSize * sizeI x ≡ end
+  pub holds : take end out ≡ take at before ++ encode x
+
+-- after: the bytes from the record at `at` to `end` have moved over that record
+abbrev pub Removed : (out after : List ℕ) (at end : ℕ) → Type 0
+Removed out after at end = take (end - recordSize) after ≡ take at out ++ take (end - at - recordSize) (drop (at + recordSize) out)
+
+-- r is what the group g keeps: `count` items, and what it keeps of the item from `start` to `end`
+abbrev pub KeepsAfter : (g : Record) (out after : List ℕ) (start end count : ℕ) (r : Kept) → Type 0
+KeepsAfter g out after start end count r =
+    (before : List ℕ) (x : Particle) → start ≤ length before → Laid before out start end (single x)
+    → Laid before after start (r .end) (keep (headOf g) x none) × (r .count ≡ count + countI (keep (headOf g) x none))
+
+-- over the items that it keeps, the group g is closed at `at`: what is left ends at r
+abbrev pub Closes : (g : Record) (kept : Kept) (out after : List ℕ) (at r : ℕ) → Type 0
+Closes g kept out after at r =
+    (before : List ℕ) (x : Items) → at + recordSize ≤ length before → kept .count ≡ countI x → Laid before out (at + recordSize) (kept .end) x
+    → Laid before after at r (single (closed (headOf g) x))
+
+-- the first tree of t was read, and x written from `at` on
+pub record Writes (t before out : List ℕ) (at : ℕ) (x : Items) (r : Written) : Type 0 where
+  pub read : r .read ≡ runSize t
+  pub laid : Laid before out at (r .end) x
+
+-- up to `end`, out has the bytes of the tree of t, tidied
+pub record StartsWith (t out : List ℕ) (end : ℕ) : Type 0 where
   pub within : end ≤ length out
-  pub small : end ≤ recordSize * maxRecords
-
--- from `start` on, out has the bytes of x, and then what the buffer had before from `end` on
-pub record Laid (before out : List ℕ) (start end : ℕ) (x : Items) : Type 0 where
-  pub size : start + recordSize * sizeI x ≡ end
-  pub holds : drop start out ≡ encode x ++ drop end before
-
--- x is what a group keeps, and is laid there
-pub record Keeps (before out : List ℕ) (kept : Kept) (end : ℕ) (x : Items) : Type 0 where
-  pub count : kept .count ≡ countI x
-  pub laid : Laid before out (kept .start) end x
-
--- r is what the group g keeps: an item, laid at `start` with the record h, before the later items
-abbrev pub KeepsBefore : (g h : Record) (start : ℕ) (later r : Kept) → Type 0
-KeepsBefore g h start later r =
-    (before middle out : List ℕ) (end : ℕ) (x : Particle) (y : Items)
-    → Keeps before middle later end y → Laid middle out start (later .start) (single x) → h ≡ recordAt (drop start out)
-    → Keeps before out r end (keep (headOf g) x y)
-
--- over the items that it keeps, the group g is closed: what is left starts at r
-abbrev pub Closes : (g : Record) (kept : Kept) (out after : List ℕ) (r : ℕ) → Type 0
-Closes g kept out after r =
-    (before : List ℕ) (end : ℕ) (x : Items) → Keeps before out kept end x → Laid before after r end (single (closed (headOf g) x))
-
--- from `start` to its end, out has the bytes of the tree of t, tidied
-pub record EndsIn (t out : List ℕ) (start : ℕ) : Type 0 where
-  pub within : start ≤ length out
-  pub holds : drop start out ≡ encode (tidied t)
+  pub holds : take end out ≡ encode (tidied t)

@@ -1,27 +1,33 @@
 // Tidying (document 01, 'Tidying'; `normalize` of the Rust): a tree's records, written again.
 //
-// They are written backwards, a group's later items first, so that they end at a given byte. A group's own record is written
-// last, in front of the items that it keeps: to drop an item, open it or let it take its group's place moves no byte.
+// A group's items are tidied one after another behind a place that is left for the group's own record. An item that is dropped is
+// written over; where a record goes and its items stay, they move up over it.
 ghost use mathlib.Core.Path.{_≡_};
 ghost use mathlib.Core.List.{_++_};
 ghost use Prim.Native.Nat.{_+_, _*_, _≤_};
 ghost use lib.ListN.{length, drop};
 ghost use Rattle.particle.specs.Occurs.{isZero, isOnce};
-ghost use Rattle.particle.specs.Record.{recordSize, maxRecords, rangeOf};
+ghost use Rattle.particle.specs.Record.{recordSize, maxRecords, recordAt, rangeOf};
 ghost use Rattle.particle.specs.Tree.{sizeI, headOf, records};
 ghost use Rattle.particle.specs.Rows.{Row, row};
 ghost use Rattle.particle.specs.Encode.{recordOf, encode, Faithful};
-ghost use Rattle.tidying.specs.Tidy.{splices, takesPair, tidyItems};
-ghost use Rattle.tidying.specs.Laid.{tidied, isTidied, Room, Laid, Keeps, KeepsBefore, Closes, EndsIn};
+ghost use Rattle.tidying.specs.Tidy.{splices, takesPair};
+ghost use Rattle.tidying.specs.Laid.{tidied, isTidied, Room, Removed, KeepsAfter, Closes, Writes, StartsWith};
 use particle::Record;
 
 // The length of the longest tree in bytes.
 const CAPACITY: usize = particle::RECORD_SIZE * particle::MAX_RECORDS;
 
-// The items that a group keeps: how many, and where their records start.
+// What tidying a tree leaves: how many bytes of it were read, and where its records end in the buffer.
+struct Written {
+    read: usize,
+    end: usize,
+}
+
+// The items that a group keeps: how many, and where their records end.
 struct Kept {
     count: usize,
-    start: usize,
+    end: usize,
 }
 
 // Whether the maximum of h is 0.
@@ -83,41 +89,63 @@ fn takes_pair(g: Record, h: Record) -> bool
     once(h)
 }
 
-// What the group g keeps of its later items, and of a tidied item before them that starts at `start` and has the record h.
-fn keep(g: Record, h: Record, start: usize, later: Kept) -> Kept
-    requires { ⌜ start + recordSize ≤ recordSize * maxRecords ⌝ }
-    requires { ⌜ later .count ≤ maxRecords ⌝ }
-    ensures { λ r. ⌜ KeepsBefore g h start later r ⌝ }
+// Moves the bytes between the record at `at` and `end` over that record.
+fn remove_record(out: &mut [u8], at: usize, end: usize)
+    requires { ⌜ at + recordSize ≤ end ⌝ }
+    requires { ⌜ end ≤ length (now out) ⌝ }
+    ensures { λ _. ⌜ Removed (now (out .entry)) (now (out .exit)) at end ⌝ }
 {
-    if never(h) {
-        return later;
-    }
-    if splices(g, h) {
-        return Kept {
-            count: later.count + (h.count as usize),
-            start: start + particle::RECORD_SIZE,
-        };
-    }
-    Kept {
-        count: later.count + 1,
-        start: start,
+    let n = end - at - particle::RECORD_SIZE;
+    let mut i: usize = 0;
+    while i < n {
+        out[at + i] = out[at + particle::RECORD_SIZE + i];
+        i += 1;
     }
 }
 
-// The group g, closed over the items that it keeps: answers where the tree that is left starts.
-fn close(g: Record, kept: Kept, out: &mut [u8]) -> usize
-    requires { ⌜ recordOf (headOf g) (g .count) ≡ g ⌝ }
-    requires { ⌜ recordSize ≤ kept .start ⌝ }
-    requires { ⌜ kept .start + recordSize * kept .count ≤ length (now out) ⌝ }
-    requires { ⌜ kept .count ≤ maxRecords ⌝ }
-    ensures { λ r. ⌜ Closes g kept (now (out .entry)) (now (out .exit)) r ⌝ }
+// What the group g keeps after `count` items: of the tidied item from `start` to `end`.
+fn keep(g: Record, out: &mut [u8], start: usize, end: usize, count: usize) -> Kept
+    requires { ⌜ start + recordSize ≤ end ⌝ }
+    requires { ⌜ end ≤ length (now out) ⌝ }
+    requires { ⌜ count ≤ maxRecords ⌝ }
+    ensures { λ r. ⌜ KeepsAfter g (now (out .entry)) (now (out .exit)) start end count r ⌝ }
 {
-    let start = kept.start;
+    let h = particle::record_at(&out[start..]);
+    if never(h) {
+        return Kept {
+            count: count,
+            end: start,
+        };
+    }
+    if splices(g, h) {
+        remove_record(out, start, end);
+        return Kept {
+            count: count + (h.count as usize),
+            end: end - particle::RECORD_SIZE,
+        };
+    }
+    Kept {
+        count: count + 1,
+        end: end,
+    }
+}
+
+// The group g at `at`, closed over the items that it keeps, which stand after the place of its record: answers where it ends.
+fn close(g: Record, kept: Kept, out: &mut [u8], at: usize) -> usize
+    requires { ⌜ recordOf (headOf g) (g .count) ≡ g ⌝ }
+    requires { ⌜ at + recordSize + recordSize * kept .count ≤ kept .end ⌝ }
+    requires { ⌜ kept .end ≤ length (now out) ⌝ }
+    requires { ⌜ kept .count ≤ maxRecords ⌝ }
+    ensures { λ r. ⌜ Closes g kept (now (out .entry)) (now (out .exit)) at r ⌝ }
+{
+    let end = kept.end;
     if kept.count == 1 {
         if once(g) {
-            return start;
+            remove_record(out, at, end);
+            return end - particle::RECORD_SIZE;
         }
-        let h = particle::record_at(&out[start..]);
+        let first = at + particle::RECORD_SIZE;
+        let h = particle::record_at(&out[first..]);
         if takes_pair(g, h) {
             let choice = Record {
                 kind: h.kind,
@@ -125,70 +153,91 @@ fn close(g: Record, kept: Kept, out: &mut [u8]) -> usize
                 count: h.count,
                 ..g
             };
-            particle::write_record(out, start, choice);
-            return start;
+            particle::write_record(out, first, choice);
+            remove_record(out, at, end);
+            return end - particle::RECORD_SIZE;
         }
     }
-    let at = start - particle::RECORD_SIZE;
     let group = Record {
         count: kept.count as u8,
         ..g
     };
     particle::write_record(out, at, group);
-    at
+    end
 }
 
-// The first tree of t as it is, into out so that it ends at `end`: answers where it starts.
-fn copy_tree(t: &[u8], out: &mut [u8], end: usize) -> usize
-    requires { ⌜ Room (now t) 1 (now out) end ⌝ }
-    ensures { λ r. ⌜ Laid (now (out .entry)) (now (out .exit)) r end (row 1 (now (t .entry))) ⌝ }
+// The first tree of t as it is, into out from `at` on.
+fn copy_tree(t: &[u8], out: &mut [u8], at: usize) -> Written
+    requires { ⌜ Room (now t) 1 (now out) at ⌝ }
+    ensures { λ r. ⌜ Writes (now (t .entry)) (now (out .entry)) (now (out .exit)) at (row 1 (now (t .entry))) r ⌝ }
 {
     let n = particle::run_len(t);
-    let start = end - n;
-    bytes::copy(&t[..n], &mut out[start..end]);
-    start
+    let end = at + n;
+    bytes::copy(&t[..n], &mut out[at..end]);
+    Written { read: n, end: end }
 }
 
-// The first tree of t, tidied, into out so that it ends at `end`: answers where it starts.
-fn tidy_tree(t: &[u8], out: &mut [u8], end: usize) -> usize
-    requires { ⌜ Room (now t) 1 (now out) end ⌝ }
-    ensures { λ r. ⌜ Laid (now (out .entry)) (now (out .exit)) r end (tidied (now (t .entry))) ⌝ }
+// The first tree of t, tidied, into out from `at` on. A tree without items is tidy.
+fn tidy_tree(t: &[u8], out: &mut [u8], at: usize) -> Written
+    requires { ⌜ Room (now t) 1 (now out) at ⌝ }
+    ensures { λ r. ⌜ Writes (now (t .entry)) (now (out .entry)) (now (out .exit)) at (tidied (now (t .entry))) r ⌝ }
 {
     let root = particle::record_at(t);
-    if !tidies(root) {
-        return copy_tree(t, out, end);
-    }
-    let kept = tidy_items(particle::items(t), root.count as usize, root, out, end);
-    close(root, kept, out)
-}
-
-// What the group g keeps of the first n trees of t, each tidied first, into out so that it ends at `end`.
-fn tidy_items(t: &[u8], n: usize, g: Record, out: &mut [u8], end: usize) -> Kept
-    requires { ⌜ Room (now t) n (now out) end ⌝ }
-    ensures { λ r. ⌜ Keeps (now (out .entry)) (now (out .exit)) r end (tidyItems (headOf g) (row n (now (t .entry)))) ⌝ }
-{
-    if n == 0 {
-        return Kept {
-            count: 0,
-            start: end,
+    if root.count == 0 {
+        particle::write_record(out, at, root);
+        return Written {
+            read: particle::RECORD_SIZE,
+            end: at + particle::RECORD_SIZE,
         };
     }
-    let later = tidy_items(particle::later(t), n - 1, g, out, end);
-    let start = tidy_tree(t, out, later.start);
-    let h = particle::record_at(&out[start..]);
-    keep(g, h, start, later)
+    tidy_items(root, t, out, at)
 }
 
-// The tree of t, tidied, so that it ends where out ends: answers where it starts.
-pub fn normalize_at_end(t: &[u8], out: &mut [u8]) -> usize
+// The same for a tree with the record g: each item is tidied after those that g keeps, and g's record is written last.
+fn tidy_items(g: Record, t: &[u8], out: &mut [u8], at: usize) -> Written
+    requires { ⌜ g ≡ recordAt (now t) ⌝ }
+    requires { ⌜ Room (now t) 1 (now out) at ⌝ }
+    ensures { λ r. ⌜ Writes (now (t .entry)) (now (out .entry)) (now (out .exit)) at (tidied (now (t .entry))) r ⌝ }
+{
+    if !tidies(g) {
+        return copy_tree(t, out, at);
+    }
+    let mut count: usize = 0;
+    let mut end = at + particle::RECORD_SIZE;
+    let mut read = particle::RECORD_SIZE;
+    let mut rest = particle::items(t);
+    let mut left = g.count as usize;
+    while 0 < left {
+        let x = tidy_tree(rest, out, end);
+        let kept = keep(g, out, end, x.end, count);
+        count = kept.count;
+        end = kept.end;
+        let n = x.read;
+        let next = &rest[n..];
+        rest = next;
+        read += n;
+        left -= 1;
+    }
+    let kept = Kept {
+        count: count,
+        end: end,
+    };
+    Written {
+        read: read,
+        end: close(g, kept, out, at),
+    }
+}
+
+// The tree of t, tidied, at the start of out: answers how many bytes it takes. Later bytes of out may change.
+pub fn normalize_in(t: &[u8], out: &mut [u8]) -> usize
     requires { ⌜ Row 1 (now t) ⌝ }
     requires { ⌜ Faithful (records (now t)) ⌝ }
     requires { ⌜ length (now t) ≤ length (now out) ⌝ }
     requires { ⌜ length (now out) ≤ recordSize * maxRecords ⌝ }
-    ensures { λ r. ⌜ EndsIn (now (t .entry)) (now (out .exit)) r ⌝ }
+    ensures { λ r. ⌜ StartsWith (now (t .entry)) (now (out .exit)) r ⌝ }
 {
-    let end = out.len();
-    tidy_tree(t, out, end)
+    let x = tidy_tree(t, out, 0);
+    x.end
 }
 
 // The tree of t, tidied, at the start of out: answers its record count. Every later byte of out keeps its value.
@@ -201,7 +250,7 @@ pub fn normalize(t: &[u8], out: &mut [u8]) -> usize
     ensures { λ _. ⌜ now (out .exit) ≡ encode (tidied (now (t .entry))) ++ drop (length (encode (tidied (now (t .entry))))) (now (out .entry)) ⌝ }
 {
     let mut work = [0u8; CAPACITY];
-    let start = tidy_tree(t, &mut work, CAPACITY);
-    let written = bytes::copy(&work[start..], out);
+    let end = normalize_in(t, &mut work);
+    let written = bytes::copy(&work[..end], out);
     written / particle::RECORD_SIZE
 }

@@ -3,7 +3,7 @@ use borrow.Author.Needs.{needs}
 use denote.Ref.{now}
 use Rattle.sheet.proofs.Contents.{contents}
 use Rattle.sheet.proofs.AcceptedSheet.{passed, derived-row, base-row, derived-faithful, base-faithful}
-use Rattle.marking.proofs.TidiedPart.{part-row, part-tree}
+use Rattle.marking.proofs.TidiedPart.{part-row, part-tree, part-length}
 use Rattle.marking.proofs.Marking.{accepted-mark}
 use Rattle.marking.proofs.mark_in.Statement.{statement}
 use Rattle.marking.proofs.mark_in.Tie as tie
@@ -11,55 +11,53 @@ use Rattle.marking.proofs.mark_in.Tie as tie
 derived-requires : tie.Need-derived-requires
 derived-requires c κs = passed _ (c .before .before .before .pre .0) .contents
 
-normalize-at-end-requires : tie.Need-normalize-at-end-requires
-normalize-at-end-requires c κs =
-    let p = passed _ (c .before .before .before .before .before .pre .0) in
-    let b = c .before .before .before .before .before .pre .1 .0 in
-    rw (c .before .derived .ensures) (derived-row p, (derived-faithful p, (b .room, b .most)))
+normalize-in-requires : tie.Need-normalize-in-requires
+normalize-in-requires c κs =
+    let pre = c .before .before .before .before .before .pre in
+    let p = passed _ (pre .0) in
+    rw (c .before .derived .ensures) (derived-row p, (derived-faithful p, (pre .1 .0 .room, pre .1 .0 .most)))
 
 base-requires : tie.Need-base-requires
 base-requires c κs = passed _ (c .before .before .before .before .before .before .before .before .pre .0) .contents
 
-normalize-at-end-requires-2 : tie.Need-normalize-at-end-requires-2
-normalize-at-end-requires-2 c κs =
-    let p = passed _ (c .before .before .before .before .before .before .before .before .before .before .pre .0) in
-    let b = c .before .before .before .before .before .before .before .before .before .before .pre .1 .1 in
-    rw (c .before .base .ensures) (base-row p, (base-faithful p, (b .room, b .most)))
+normalize-in-requires-2 : tie.Need-normalize-in-requires-2
+normalize-in-requires-2 c κs =
+    let pre = c .before .before .before .before .before .before .before .before .before .before .pre in
+    let p = passed _ (pre .0) in
+    rw (c .before .base .ensures) (base-row p, (base-faithful p, (pre .1 .1 .room, pre .1 .1 .most)))
 
-sub-mark-tidied : tie.Need-sub-mark-tidied
-sub-mark-tidied c = search needs
+slice-reshare-prefix-mark-tidied : tie.Need-slice-reshare-prefix-mark-tidied
+slice-reshare-prefix-mark-tidied c = search needs
 
-part-mark-tidied-start : tie.Need-part-mark-tidied-start
-part-mark-tidied-start c = search needs
+slice-aggregate-mark-tidied : tie.Need-slice-aggregate-mark-tidied
+slice-aggregate-mark-tidied c =
+    let d = c .before .before .before .before .before .before .before .before in
+    part-length (now (d .before .before .derived .result)) (d .normalize-in .ensures)
 
-part-mark-tidied-end : tie.Need-part-mark-tidied-end
-part-mark-tidied-end c = search needs
+slice-reshare-prefix-mark-tidied-2 : tie.Need-slice-reshare-prefix-mark-tidied-2
+slice-reshare-prefix-mark-tidied-2 c = search needs
 
-sub-mark-tidied-2 : tie.Need-sub-mark-tidied-2
-sub-mark-tidied-2 c = search needs
-
-part-mark-tidied-start-2 : tie.Need-part-mark-tidied-start-2
-part-mark-tidied-start-2 c = search needs
-
-part-mark-tidied-end-2 : tie.Need-part-mark-tidied-end-2
-part-mark-tidied-end-2 c = search needs
+slice-aggregate-mark-tidied-2 : tie.Need-slice-aggregate-mark-tidied-2
+slice-aggregate-mark-tidied-2 c =
+    let b = c .before .before .before .before in
+    part-length (now (b .before .before .base .result)) (b .normalize-in2 .ensures)
 
 leaves-requires : tie.Need-leaves-requires
-leaves-requires c κs = passed _ (c .before .before .before .before .before .before .before .before .before .before .before .before .before .before .before .before .before .pre .0) .contents
+leaves-requires c κs = passed _ (c .before .before .before .before .before .before .before .before .before .before .before .before .before .before .before .pre .0) .contents
 
 tables-requires : tie.Need-tables-requires
-tables-requires c κs = passed _ (c .before .before .before .before .before .before .before .before .before .before .before .before .before .before .before .before .before .before .pre .0) .contents
+tables-requires c κs = passed _ (c .before .before .before .before .before .before .before .before .before .before .before .before .before .before .before .before .pre .0) .contents
 
 leaf-count-requires : tie.Need-leaf-count-requires
 leaf-count-requires c κs =
-    let a = c .before .before .before .before .before .before .before .before .before .before .before .before .before .before .before .before .before .before .before in
+    let a = c .before .before .before .before .before .before .before .before .before .before .before .before .before .before .before .before .before in
     contents (now (a .args .s)) (passed (now (a .args .s)) (a .pre .0) .contents) .start
 
 mark-tidied-requires : tie.Need-mark-tidied-requires
-mark-tidied-requires c κs = (
-  part-row (now (c .before .before .before .before .before .before .before .before .before .before .before .before .before .before .before .before .derived .result)) (c .before .before .before .before .before .before .before .before .before .before .before .before .before .before .normalize-at-end .ensures),
-  part-row (now (c .before .before .before .before .before .before .before .before .before .before .before .base .result)) (c .before .before .before .before .before .before .before .before .before .normalize-at-end2 .ensures),
-)
+mark-tidied-requires c κs =
+    let b = c .before .before .before .before .before .before .before in
+    let d = b .before .before .before .before .before in
+    (part-row (now (d .before .before .derived .result)) (d .normalize-in .ensures), part-row (now (b .before .before .base .result)) (b .normalize-in2 .ensures))
 
 same-length : tie.Need-same-length
 same-length c = search needs
@@ -69,12 +67,12 @@ same-length-2 c = search needs
 
 returns : tie.Need-returns
 returns c =
-    let d = c .before .before .before .before .before .before .before .before .before .before .before .before .before .before .before in
-    let b = c .before .before .before .before .before .before .before .before .before .before in
+    let b = c .before .before .before .before .before .before .before .before in
+    let d = b .before .before .before .before .before in
     accepted-mark _
     (c .before .before .before .leaves .ensures) (c .before .before .tables .ensures) (c .before .leaf-count .ensures)
-    (part-tree (now (d .before .before .derived .result)) (d .normalize-at-end .ensures)) (d .before .before .derived .ensures)
-    (part-tree (now (b .before .before .base .result)) (b .normalize-at-end2 .ensures)) (b .before .before .base .ensures)
+    (part-tree (now (d .before .before .derived .result)) (d .normalize-in .ensures)) (d .before .before .derived .ensures)
+    (part-tree (now (b .before .before .base .result)) (b .normalize-in2 .ensures)) (b .before .before .base .ensures)
     (c .mark-tidied .ensures)
 
 pub mark-in-spec : {M : Type 1} → statement M
@@ -82,15 +80,13 @@ mark-in-spec =
     tie.close
     (tie.spec
     derived-requires
-    normalize-at-end-requires
+    normalize-in-requires
     base-requires
-    normalize-at-end-requires-2
-    sub-mark-tidied
-    part-mark-tidied-start
-    part-mark-tidied-end
-    sub-mark-tidied-2
-    part-mark-tidied-start-2
-    part-mark-tidied-end-2
+    normalize-in-requires-2
+    slice-reshare-prefix-mark-tidied
+    slice-aggregate-mark-tidied
+    slice-reshare-prefix-mark-tidied-2
+    slice-aggregate-mark-tidied-2
     leaves-requires
     tables-requires
     leaf-count-requires

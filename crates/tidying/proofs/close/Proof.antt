@@ -1,11 +1,9 @@
 -- `tidying::close` meets its contract. Assumes nothing.
 use mathlib.Core.Logic.{⊎-elim}
 use mathlib.Core.Path.{ap, sym, _∙_}
-use Prim.Native.Nat.{_≤_}
-use native.Mathlib.Omega.{arith}
+use Prim.Native.Nat.{_+_}
 use borrow.Author.Needs.{needs}
-use lib.ListN.{length}
-use Rattle.particle.specs.Record.{recordAt}
+use Rattle.particle.specs.Record.{recordSize, recordAt}
 use Rattle.particle.proofs.Laws.{part-is}
 use Rattle.tidying.proofs.CloseStep.{many, takes-place, takes-pair, stays}
 use Rattle.tidying.proofs.close.Statement.{statement}
@@ -14,10 +12,24 @@ use Rattle.tidying.proofs.close.Tie as tie
 once-requires : tie.Need-once-requires
 once-requires c κs = search needs
 
+remove-record-requires : tie.Need-remove-record-requires
+remove-record-requires c κs = search needs
+
+sub-result : tie.Need-sub-result
+sub-result c = search needs
+
+same-length : tie.Need-same-length
+same-length c = search needs
+
 returns : tie.Need-returns
-returns c before end x a =
-    let d = c .before .before .before .before .before in
-    takes-place (d .args .g) (d .pre .0) (d .args .kept) (d .args .out .now) before end x a (c .before .before .if1 .taken) (sym (c .before .once .ensures) ∙ c .if2 .taken)
+returns c before x l n a =
+    let d = c .before .before .before .before in
+    let p = d .before .before .before .before .before in
+    takes-place (p .args .g) (p .pre .0) (p .args .kept) (p .args .at) l n a (d .before .before .if1 .taken) (sym (d .before .once .ensures) ∙ d .if2 .taken)
+    (c .before .before .remove-record .ensures)
+
+add-first : tie.Need-add-first
+add-first c = search needs
 
 sub-record-at : tie.Need-sub-record-at
 sub-record-at c = search needs
@@ -37,44 +49,46 @@ takes-pair-requires c κs = search needs
 write-record-requires : tie.Need-write-record-requires
 write-record-requires c κs = search needs
 
-same-length : tie.Need-same-length
-same-length c = search needs
+remove-record-requires-2 : tie.Need-remove-record-requires-2
+remove-record-requires-2 c κs = search needs
 
-returns-2 : tie.Need-returns-2
-returns-2 c before end x a =
-    let d = c .before .before .before .before in
-    let f = d .before .before .before .before .before .before .before in
-    let p = f .before .before .before in
-    takes-pair (p .args .g) (p .pre .0) (p .args .kept) (p .args .out .now) before end x a (f .if1 .taken)
-    (sym (d .before .before .before .before .before .before .once .ensures) ∙ d .before .before .before .before .before .if2 .left)
-    (d .before .before .record-at .result)
-    (d .before .before .record-at .ensures ∙ ap recordAt (part-is (p .args .out .now) (p .args .kept .start)))
-    (sym (d .before .takes-pair .ensures) ∙ d .if3 .taken)
-    (c .before .before .write-record .ensures)
-
-sub-at : tie.Need-sub-at
-sub-at c = search needs
-
-cast-t22 : tie.Need-cast-t22
-cast-t22 c = search needs
-
-write-record-requires-2 : tie.Need-write-record-requires-2
-write-record-requires-2 c κs = search needs
+sub-result-2 : tie.Need-sub-result-2
+sub-result-2 c = search needs
 
 same-length-2 : tie.Need-same-length-2
 same-length-2 c = search needs
 
+returns-2 : tie.Need-returns-2
+returns-2 c before x l n a =
+    let d = c .before .before .before .before .before .before .before .before in
+    let f = d .before .before .before .before .before in
+    let p = f .before .before .before .before .before in
+    takes-pair (p .args .g) (p .pre .0) (p .args .kept) (p .args .at) l n a (f .before .before .if1 .taken)
+    (sym (f .before .once .ensures) ∙ f .if2 .left)
+    (d .before .before .record-at .result)
+    (d .before .before .record-at .ensures ∙ ap recordAt (part-is (p .args .out .now) (p .args .at + recordSize)))
+    (sym (d .before .takes-pair .ensures) ∙ d .if3 .taken)
+    (c .before .before .before .before .before .before .write-record .ensures)
+    (c .before .before .remove-record2 .ensures)
+
+cast-t28 : tie.Need-cast-t28
+cast-t28 c = search needs
+
+write-record-requires-2 : tie.Need-write-record-requires-2
+write-record-requires-2 c κs = search needs
+
+same-length-3 : tie.Need-same-length-3
+same-length-3 c = search needs
+
 returns-3 : tie.Need-returns-3
-returns-3 c before end x a =
+returns-3 c before x l n a =
     let d = c .before .before .before .before .before in
     let p = d .before .before .before in
-    let r = p .pre .1 .0 in
-    let w : p .args .kept .start ≤ length (p .args .out .now) = omega (arith, p .pre .1 .1 .0) in
     let e = c .before .before .write-record2 .ensures in
     ⊎-elim
-    (λ v. stays (p .args .g) (p .pre .0) (p .args .kept) (p .args .out .now) before end x a (v .0 .taken) (sym (v .1 .ensures) ∙ v .2 .left)
-    (v .5 .result) (v .5 .ensures ∙ ap recordAt (part-is (p .args .out .now) (p .args .kept .start))) (sym (v .6 .ensures) ∙ v .7 .left) r w e)
-    (λ v. many (p .args .g) (p .pre .0) (p .args .kept) (p .args .out .now) before end x a (v .left) r w e)
+    (λ v. stays (p .args .g) (p .pre .0) (p .args .kept) (p .args .at) l n a (v .0 .taken) (sym (v .1 .ensures) ∙ v .2 .left)
+    (v .5 .result) (v .5 .ensures ∙ ap recordAt (part-is (p .args .out .now) (p .args .at + recordSize))) (sym (v .6 .ensures) ∙ v .7 .left) e)
+    (λ v. many (p .args .g) (p .pre .0) (p .args .kept) (p .args .at) l n a (v .left) e)
     (d .if1 .came)
 
 pub close-spec : {M : Type 1} → statement M
@@ -82,17 +96,22 @@ close-spec =
     tie.close
     (tie.spec
     once-requires
+    remove-record-requires
+    sub-result
+    same-length
     returns
+    add-first
     sub-record-at
     part-record-at-start
     part-record-at-end
     record-at-requires
     takes-pair-requires
     write-record-requires
-    same-length
-    returns-2
-    sub-at
-    cast-t22
-    write-record-requires-2
+    remove-record-requires-2
+    sub-result-2
     same-length-2
+    returns-2
+    cast-t28
+    write-record-requires-2
+    same-length-3
     returns-3)

@@ -9,8 +9,8 @@ use Rattle.tidying.proofs.copy_tree.Tie as tie
 run-len-requires : tie.Need-run-len-requires
 run-len-requires c κs = search needs
 
-sub-start : tie.Need-sub-start
-sub-start c = in-out (c .before .before .before .pre) (c .run-len .ensures)
+add-end : tie.Need-add-end
+add-end c = omega (arith, in-out (c .before .before .before .pre) (c .run-len .ensures))
 
 slice-aggregate-copy : tie.Need-slice-aggregate-copy
 slice-aggregate-copy c = run-length (c .before .before .before .before .pre) (c .before .run-len .ensures)
@@ -22,7 +22,7 @@ part-copy-start : tie.Need-part-copy-start
 part-copy-start c = search needs
 
 part-copy-end : tie.Need-part-copy-end
-part-copy-end c = search needs
+part-copy-end c = in-out (c .before .before .before .before .pre) (c .before .run-len .ensures)
 
 copy-requires : tie.Need-copy-requires
 copy-requires c κs = run-fits (c .before .before .before .before .before .pre) (c .before .before .run-len .ensures)
@@ -34,14 +34,17 @@ returns : tie.Need-returns
 returns c =
     let d = c .before .before .before .before .before in
     let known = d .before .before in
-    copied (known .before .pre) (d .run-len .ensures) (bytes-from (known .before .args .t .now) (λ i. omega (arith, known .shared-slice-known .given i))) (c .before .before .copy .ensures .1)
+    record {
+      read = d .run-len .ensures;
+      laid = copied (known .before .pre) (d .run-len .ensures) (bytes-from (known .before .args .t .now) (λ i. omega (arith, known .shared-slice-known .given i))) (c .before .before .copy .ensures .1);
+    }
 
 pub copy-tree-spec : {M : Type 1} → statement M
 copy-tree-spec =
     tie.close
     (tie.spec
     run-len-requires
-    sub-start
+    add-end
     slice-aggregate-copy
     sub-copy
     part-copy-start

@@ -1,52 +1,44 @@
 -- `tidying::normalize` meets its contract. Assumes nothing.
-use mathlib.Core.Path.{refl}
 use native.Mathlib.Omega.{arith}
 use borrow.Author.Needs.{needs}
-use Rattle.tidying.proofs.WholeStep.{whole-room, part-fits, written}
+use Rattle.tidying.proofs.WholeStep.{part-length, end-fits, written}
 use Rattle.tidying.proofs.normalize.Statement.{statement}
 use Rattle.tidying.proofs.normalize.Tie as tie
 
-slice-aggregate-tidy-tree : tie.Need-slice-aggregate-tidy-tree
-slice-aggregate-tidy-tree c = search needs
+slice-aggregate-normalize-in : tie.Need-slice-aggregate-normalize-in
+slice-aggregate-normalize-in c = search needs
 
-tidy-tree-requires : tie.Need-tidy-tree-requires
-tidy-tree-requires c κs =
-    let p = c .before .before .before .pre in
-    whole-room (p .0) (p .1 .0) (p .1 .1 .0) _ refl
+normalize-in-requires : tie.Need-normalize-in-requires
+normalize-in-requires c κs = search needs
 
-sub-copy : tie.Need-sub-copy
-sub-copy c = search needs
+array-share-prefix-work : tie.Need-array-share-prefix-work
+array-share-prefix-work c = search needs
 
-part-copy-start : tie.Need-part-copy-start
-part-copy-start c = search needs
-
-part-copy-end : tie.Need-part-copy-end
-part-copy-end c = search needs
+slice-aggregate-copy : tie.Need-slice-aggregate-copy
+slice-aggregate-copy c = part-length (c .before .before .before .before .before .before .pre .0) (c .before .before .normalize-in .ensures)
 
 copy-requires : tie.Need-copy-requires
 copy-requires c κs =
-    let d = c .before .before .before .before in
-    let p = d .before .before .before .before .pre in
-    omega (arith, part-fits (p .0) refl (d .tidy-tree .kept .1 .0) (d .tidy-tree .ensures), p .1 .1 .1)
+    let p = c .before .before .before .before .before .before .before .pre in
+    let a = c .before .before .before .normalize-in .ensures in
+    omega (arith, part-length (p .0) a, end-fits (p .0) a, p .1 .1 .1)
 
 same-length : tie.Need-same-length
 same-length c = search needs
 
 returns : tie.Need-returns
 returns c =
-    let d = c .before .before .before .before .before .before .before in
-    let p = d .before .before .before .before in
-    written (p .pre .0) refl (d .tidy-tree .kept .1 .0) (d .tidy-tree .ensures) (c .before .before .copy .ensures .0) (p .args .out .now) (c .before .before .copy .ensures .1)
+    let p = c .before .before .before .before .before .before .before .before .before .before in
+    written (p .pre .0) (c .before .before .before .before .before .before .normalize-in .ensures) (c .before .before .copy .ensures .0) (p .args .out .now) (c .before .before .copy .ensures .1)
 
 pub normalize-spec : {M : Type 1} → statement M
 normalize-spec =
     tie.close
     (tie.spec
-    slice-aggregate-tidy-tree
-    tidy-tree-requires
-    sub-copy
-    part-copy-start
-    part-copy-end
+    slice-aggregate-normalize-in
+    normalize-in-requires
+    array-share-prefix-work
+    slice-aggregate-copy
     copy-requires
     same-length
     returns)
