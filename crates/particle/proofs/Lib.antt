@@ -3,6 +3,8 @@ pub mod Store
 pub mod Trees
 pub mod Run
 pub mod Laws
+pub mod Runs
+pub mod MeasureStep
 pub mod ItemWalk
 pub mod RoundTrip
 pub mod ItemEncodes

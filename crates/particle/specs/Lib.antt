@@ -2,5 +2,6 @@ pub mod Occurs
 pub mod Record
 pub mod Tree
 pub mod Rows
+pub mod Runs
 pub mod Encode
 pub mod Write

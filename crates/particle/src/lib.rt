@@ -1,4 +1,6 @@
 // Particle trees as records in preorder: the layout of a record, occurrence pairs, and the run of records that a subtree is.
+mod measured;
+
 ghost use mathlib.Core.Path.{_≡_};
 ghost use Prim.Native.Nat.{_+_, _%_, _≤_, _<_};
 ghost use lib.ListN.{length, drop};
@@ -8,6 +10,8 @@ ghost use Rattle.particle.specs.Record.{recordSize, recordAt, word, reco
 ghost use Rattle.particle.specs.Write.{overwrite};
 ghost use Rattle.particle.specs.Tree.{records};
 ghost use Rattle.particle.specs.Rows.{Row, itemsPart, laterPart, runSize, itemStart, itemRun, ItemAt, PartOf};
+pub use measured::measure;
+pub use measured::next;
 
 // The length of a record in bytes. With the reading and writing functions below, this file alone knows the layout.
 pub const RECORD_SIZE: usize = 12;

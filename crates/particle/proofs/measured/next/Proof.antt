@@ -1,0 +1,65 @@
+-- `measured::next` meets its contract. Assumes nothing.
+use mathlib.Core.Path.{_≡_, ap, _∙_}
+use Prim.Native.Nat.{ℕ, _*_, _≤_}
+use native.Mathlib.Omega.{arith}
+use borrow.Author.Needs.{needs}
+use lib.ListN.{length, drop, getD}
+use Rattle.particle.specs.Record.{recordSize}
+use Rattle.particle.specs.Rows.{runSize}
+use Rattle.particle.proofs.Laws.{part-is, run-within, some-bytes}
+use Rattle.particle.proofs.Runs.{group-run}
+use Rattle.particle.proofs.measured.next.Statement.{statement}
+use Rattle.particle.proofs.measured.next.Tie as tie
+
+shared-slice-read-if1 : tie.Need-shared-slice-read-if1
+shared-slice-read-if1 c = omega (arith, some-bytes (c .before .before .pre .row))
+
+later-requires : tie.Need-later-requires
+later-requires c κs = search needs
+
+returns : tie.Need-returns
+returns c = search needs
+
+shared-slice-read-n : tie.Need-shared-slice-read-n
+shared-slice-read-n c = omega (arith, some-bytes (c .before .before .before .before .pre .row))
+
+cast-n : tie.Need-cast-n
+cast-n c = omega (arith, c .shared-slice-known3 .given 1)
+
+mul-n : tie.Need-mul-n
+mul-n c = omega (arith, c .shared-slice-known3 .given 1)
+
+run : (c : tie.After-shared-slice-known3) → recordSize * getD (c .before .before .before .before .args .t .now) 1 0 ≡ runSize (c .before .before .before .before .args .t .now)
+run c = group-run (c .before .before .before .before .pre) (omega (arith, c .before .if1 .left))
+
+within : (c : tie.After-shared-slice-known3) → recordSize * getD (c .before .before .before .before .args .t .now) 1 0 ≤ length (c .before .before .before .before .args .t .now)
+within c = rw (run c) (run-within (c .before .before .before .before .args .t .now))
+
+sub-result : tie.Need-sub-result
+sub-result c = within c
+
+part-result-start : tie.Need-part-result-start
+part-result-start c = within c
+
+part-result-end : tie.Need-part-result-end
+part-result-end c = search needs
+
+returns-2 : tie.Need-returns-2
+returns-2 c =
+    let t = c .before .before .before .before .before .args .t .now in
+    part-is t (recordSize * getD t 1 0) ∙ ap (λ (n : ℕ). drop n t) (run (c .before))
+
+pub next-spec : {M : Type 1} → statement M
+next-spec =
+    tie.close
+    (tie.spec
+    shared-slice-read-if1
+    later-requires
+    returns
+    shared-slice-read-n
+    cast-n
+    mul-n
+    sub-result
+    part-result-start
+    part-result-end
+    returns-2)

@@ -1,0 +1,55 @@
+// Measured trees: a group's record has, in place of the leaf number 0, how many records the group's tree takes. The tree is the
+// same, and what follows it is found without reading its records.
+ghost use mathlib.Core.Path.{_≡_};
+ghost use Prim.Native.Nat.{_*_, _≤_};
+ghost use lib.ListN.{length};
+ghost use Rattle.particle.specs.Record.{recordSize, maxRecords};
+ghost use Rattle.particle.specs.Tree.{sizeI, tree};
+ghost use Rattle.particle.specs.Rows.{Row, row, laterPart};
+ghost use Rattle.particle.specs.Runs.{Run};
+use crate::RECORD_SIZE;
+use crate::SEQUENCE;
+use crate::later;
+
+// The part of t that starts after the first tree.
+pub fn next(t: &[u8]) -> &[u8]
+    requires { ⌜ Run 1 (now t) ⌝ }
+    ensures { λ r. ⌜ now r ≡ laterPart (now (t .entry)) ⌝ }
+{
+    if t[0] < SEQUENCE {
+        return later(t);
+    }
+    let n = RECORD_SIZE * (t[1] as usize);
+    &t[n..]
+}
+
+// How many bytes the first n trees of t take.
+fn row_len(t: &[u8], n: usize) -> usize
+    requires { ⌜ Run n (now t) ⌝ }
+    ensures { λ r. ⌜ r ≡ recordSize * sizeI (row n (now (t .entry))) ⌝ }
+{
+    let mut rest = t;
+    let mut left = n;
+    while 0 < left {
+        let after = next(rest);
+        rest = after;
+        left -= 1;
+    }
+    t.len() - rest.len()
+}
+
+// Measures the tree of t: from the last record to the first, so that a group's items are measured before it.
+pub fn measure(t: &mut [u8])
+    requires { ⌜ Row 1 (now t) ⌝ }
+    requires { ⌜ length (now t) ≤ recordSize * maxRecords ⌝ }
+    ensures { λ _. ⌜ Run 1 (now (t .exit)) × (tree (now (t .exit)) ≡ tree (now (t .entry))) ⌝ }
+{
+    let mut at = t.len();
+    while 0 < at {
+        at -= RECORD_SIZE;
+        if t[at] >= SEQUENCE {
+            let n = row_len(&t[at + RECORD_SIZE..], t[at + 2] as usize);
+            t[at + 1] = (n / RECORD_SIZE + 1) as u8;
+        }
+    }
+}
