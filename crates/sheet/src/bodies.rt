@@ -1,7 +1,7 @@
 // The leaves and the tables: their check, and the leaves' kinds.
 ghost use mathlib.Core.Path.{_≡_};
-ghost use Prim.Native.Nat.{_*_, _≤_};
-ghost use lib.ListN.{length, take};
+ghost use Prim.Native.Nat.{_+_, _*_, _≤_};
+ghost use lib.ListN.{length, take, drop};
 ghost use Rattle.verdicts.specs.Paper.{leafSize};
 ghost use Rattle.sheet.specs.Layout.{maxLeaves, leafAt, leavesIn};
 ghost use Rattle.sheet.specs.Refused.{leafOk, leavesOk, verdictOk, verdictsOk, kindsOf};
@@ -16,31 +16,26 @@ pub struct Leaf {
     pub name: u16,
 }
 
-// The leaf at the start of t.
-fn leaf_at(t: &[u8]) -> Leaf
-    requires { ⌜ leafSize ≤ length (now t) ⌝ }
-    ensures { λ r. ⌜ r ≡ leafAt (now (t .entry)) ⌝ }
+// The leaf of number i.
+fn leaf_at(leaves: &[u8], i: usize) -> Leaf
+    requires { ⌜ leafSize * (i + 1) ≤ length (now leaves) ⌝ }
+    ensures { λ r. ⌜ r ≡ leafAt (drop (leafSize * i) (now (leaves .entry))) ⌝ }
 {
+    let at = LEAF_SIZE * i;
     Leaf {
-        kind: t[0],
-        process: t[1],
-        name: (t[2] as u16) + (t[3] as u16) * 256,
+        kind: leaves[at],
+        process: leaves[at + 1],
+        name: (leaves[at + 2] as u16) + (leaves[at + 3] as u16) * 256,
     }
 }
 
+// Every test is made: a leaf's kind is hard to foretell, and a branch on it would cost more than the tests.
 fn leaf_ok(l: Leaf) -> bool
     ensures { λ r. ⌜ r ≡ leafOk l ⌝ }
 {
-    if l.kind == particle::ELEMENT {
-        return l.process == 0;
-    }
-    if l.kind != particle::WILDCARD {
-        return false;
-    }
-    if l.process > 2 {
-        return false;
-    }
-    l.name == 0
+    let element = (l.kind == particle::ELEMENT) & (l.process == 0);
+    let wildcard = (l.kind == particle::WILDCARD) & ((l.process <= 2) & (l.name == 0));
+    element | wildcard
 }
 
 // Whether each of the first n leaves is in order.
@@ -48,15 +43,13 @@ pub fn leaves_ok(leaves: &[u8], n: usize) -> bool
     requires { ⌜ leafSize * n ≤ length (now leaves) ⌝ }
     ensures { λ r. ⌜ r ≡ leavesOk (leavesIn n (now (leaves .entry))) ⌝ }
 {
+    let mut ok = true;
     let mut i: usize = 0;
     while i < n {
-        let at = LEAF_SIZE * i;
-        if !leaf_ok(leaf_at(&leaves[at..])) {
-            return false;
-        }
+        ok &= leaf_ok(leaf_at(leaves, i));
         i += 1;
     }
-    true
+    ok
 }
 
 // The kinds of the first n leaves, at the start of the array.
@@ -68,8 +61,7 @@ pub fn kinds(leaves: &[u8], n: usize) -> [u8; MAX_LEAVES]
     let mut out = [0; MAX_LEAVES];
     let mut i: usize = 0;
     while i < n {
-        let at = LEAF_SIZE * i;
-        let l = leaf_at(&leaves[at..]);
+        let l = leaf_at(leaves, i);
         out[i] = l.kind;
         i += 1;
     }
@@ -79,10 +71,7 @@ pub fn kinds(leaves: &[u8], n: usize) -> [u8; MAX_LEAVES]
 fn verdict_ok(v: u8) -> bool
     ensures { λ r. ⌜ r ≡ verdictOk v ⌝ }
 {
-    if v <= 1 {
-        return true;
-    }
-    in_range(v as usize, 140, 152)
+    (v <= 1) | in_range(v as usize, 140, 152)
 }
 
 // Whether each verdict of the tables is in order. The loop does not end at a fault, so that many bytes can be tested at once.
@@ -92,9 +81,7 @@ pub fn verdicts_ok(tables: &[u8]) -> bool
     let mut ok = true;
     let mut i: usize = 0;
     while i < tables.len() {
-        if !verdict_ok(tables[i]) {
-            ok = false;
-        }
+        ok &= verdict_ok(tables[i]);
         i += 1;
     }
     ok
