@@ -1,18 +1,19 @@
--- The part of a buffer into which a tree was tidied: it is the tidied tree's bytes. Assumes nothing.
-use mathlib.Core.List.{List}
+-- The buffers of the marking: how long they are, and the trees that are tidied into them. Assumes nothing.
+use mathlib.Core.List.{List, _++_}
 use mathlib.Core.Path.{_≡_, ap, sym, _∙_}
 use Prim.Native.Nat.{ℕ, _*_, _≤_}
 use native.Mathlib.Omega.{arith}
-use lib.ListN.{length, take, drop, length-take, length-drop}
-use lib.Seq.{length-take-le}
+use lib.ListN.{length, take, drop, length-take, length-drop, length-append}
+use lib.Seq.{length-take-le, take-at}
 use Rattle.particle.specs.Record.{recordSize, maxRecords}
 use Rattle.particle.specs.Tree.{tree}
 use Rattle.particle.specs.Rows.{Row}
+use Rattle.particle.specs.Runs.{Run}
 use Rattle.particle.proofs.Encoded.{encoded-row, encoded-tree}
 use Rattle.tidying.specs.Tidy.{tidy}
 use Rattle.tidying.specs.Laid.{StartsWith}
 use Rattle.sheet.specs.Layout.{leafCount, derivedCount, baseCount, derivedAt, baseAt, derivedPart, basePart}
-use Rattle.marking.specs.Buffers.{Buffer}
+use Rattle.marking.specs.Buffers.{Buffer, Prepared}
 
 -- an array of n bytes is a buffer for t
 pub buffer : {t out : List ℕ} (n : ℕ) → length out ≡ n → length t ≤ n → n ≤ recordSize * maxRecords → Buffer t out
@@ -28,13 +29,23 @@ derived-within s = within s (derivedAt (leafCount s)) (recordSize * derivedCount
 pub base-within : (s : List ℕ) → length (basePart s) ≤ length s
 base-within s = within s (baseAt (leafCount s) (derivedCount s)) (recordSize * baseCount s)
 
--- `&out[..end]`
+-- `&out[..end]`, as the borrow checker gives it
+pub part-length : {t out : List ℕ} {end : ℕ} → Prepared t out end → end ≡ length (take end out)
+part-length {out = out} {end} p = sym (length-take-le end out (p .within))
+
+-- what was tidied into out, and measured there
 module _ (t : List ℕ) {out : List ℕ} {end : ℕ} (e : StartsWith t out end) where
-  pub part-row : Row 1 (take end out)
-  part-row = rw (e .holds) (encoded-row (tidy (tree t)))
+  pub tidied-row : Row 1 (take end out)
+  tidied-row = rw (e .holds) (encoded-row (tidy (tree t)))
 
-  pub part-tree : tree (take end out) ≡ tidy (tree t)
-  part-tree = ap tree (e .holds) ∙ encoded-tree (tidy (tree t))
+  pub tidied-length : length (take end out) ≡ end
+  tidied-length = length-take-le end out (e .within)
 
-  pub part-length : end ≡ length (take end out)
-  part-length = sym (length-take-le end out (e .within))
+  pub prepared : {s : List ℕ} → length s ≡ length (take end out) → Run 1 s × (tree s ≡ tree (take end out)) → Prepared t (s ++ drop end out) end
+  prepared {s} l m =
+      let front : take end (s ++ drop end out) ≡ s = take-at s (drop end out) end (l ∙ tidied-length) in
+      record {
+        within = omega (arith, length-append s (drop end out), l, tidied-length);
+        run = rw front (m .0);
+        same = rw front (m .1 ∙ (ap tree (e .holds) ∙ encoded-tree (tidy (tree t))));
+      }

@@ -11,9 +11,11 @@ use Rattle.particle.specs.declared.Record.{Record}
 use Rattle.particle.specs.Occurs.{rangeOk, exactly}
 use Rattle.particle.specs.Record.{recordAt, rangeOf}
 use Rattle.particle.specs.Tree.{Head, element, wildcard, sequence, choice, Items, none, item, Particle, takeI, pairOf, headFrom, headOf, tree}
-use Rattle.particle.specs.Rows.{Row, row, itemsPart}
+use Rattle.particle.specs.Rows.{row, itemsPart}
+use Rattle.particle.specs.Runs.{Run}
 use Rattle.particle.specs.Encode.{kindNumber}
-use Rattle.particle.proofs.Laws.{tree-is, row-is, items-row, items-shorter}
+use Rattle.particle.proofs.Laws.{tree-is, row-is, items-shorter}
+use Rattle.particle.proofs.Runs.{items-run}
 use Rattle.totals.specs.Total.{total}
 use Rattle.rules.specs.Verdicts.{Mark, fails, Leaves, Tables}
 use Rattle.rules.specs.Combine.{_orFails_, _andThen_, combineReadings}
@@ -28,7 +30,7 @@ use Rattle.restriction.proofs.Table.{NoneOf, keys, other-kinds}
 
 -- what `restrict` has read of one tree t: its record, its items, its kind number; `seen` is how its head counts
 pub record Side (seen : Head → Head) (t : List ℕ) (r : Record) (p : Occurs) (s : List ℕ) (k : ℕ) : Type 0 where
-  pub whole : Row 1 t
+  pub whole : Run 1 t
   pub first : r ≡ recordAt t
   pub pair : p ≡ pairOf (seen (headOf r))
   pub below : s ≡ itemsPart t
@@ -37,17 +39,17 @@ pub record Side (seen : Head → Head) (t : List ℕ) (r : Record) (p : Occurs) 
 
 module _ {seen : Head → Head} {t : List ℕ} {r : Record} {p : Occurs} {s : List ℕ} {k : ℕ} (S : Side seen t r p s k) where
   side-tree : tree t ≡ headOf r ⟦ row (r .count) s ⟧
-  side-tree = tree-is (S .whole) ∙ rw (S .first, S .below)
+  side-tree = tree-is (S .whole .row) ∙ rw (S .first, S .below)
 
   side-row : row 1 t ≡ item (headOf r) (row (r .count) s) none
   unfolding takeI
-  side-row = row-is (S .whole) ∙ ap (λ (x : Particle). item (x .head) (x .items) none) side-tree
+  side-row = row-is (S .whole .row) ∙ ap (λ (x : Particle). item (x .head) (x .items) none) side-tree
 
-  side-items : Row (r .count) s
-  side-items = rw (S .first, S .below) (items-row (S .whole))
+  side-items : Run (r .count) s
+  side-items = rw (S .first, S .below) (items-run (S .whole))
 
   side-shorter : length s < length t
-  side-shorter = rw (S .below) (items-shorter (S .whole))
+  side-shorter = rw (S .below) (items-shorter (S .whole .row))
 
   -- the own head, by the kind number
   own-head : headOf r ≡ headFrom k (r .leaf) (rangeOf r)
@@ -62,16 +64,16 @@ pub record Sides (leaves tables : List ℕ) (n : ℕ) (once any : Bool) (d b : L
 module _ {leaves tables : List ℕ} {n : ℕ} {once any : Bool} {d b : List ℕ} {dr br : Record} {p q : Occurs} {ds bs : List ℕ} {dk bk m : ℕ}
     (S : Sides leaves tables n once any d b dr br p q ds bs dk bk m) where
   -- what the calls ask: less weight, and rows of trees
-  pub to-base : (weight 3 d bs < m) × (Row 1 d × Row (br .count) bs)
+  pub to-base : (weight 3 d bs < m) × (Run 1 d × Run (br .count) bs)
   to-base = (omega (arith, S .weighs, side-shorter (S .base)), (S .derived .whole, side-items (S .base)))
 
-  pub to-derived : (weight 2 ds b < m) × (Row (dr .count) ds × Row 1 b)
+  pub to-derived : (weight 2 ds b < m) × (Run (dr .count) ds × Run 1 b)
   to-derived = (omega (arith, S .weighs, side-shorter (S .derived)), (side-items (S .derived), S .base .whole))
 
-  pub to-members : (weight 1 ds b < m) × (Row 1 d × (Row (dr .count) ds × Row 1 b))
+  pub to-members : (weight 1 ds b < m) × (Run 1 d × (Run (dr .count) ds × Run 1 b))
   to-members = (omega (arith, to-derived .0), (S .derived .whole, to-derived .1))
 
-  pub to-both : (weight 2 ds bs < m) × (Row (dr .count) ds × Row (br .count) bs)
+  pub to-both : (weight 2 ds bs < m) × (Run (dr .count) ds × Run (br .count) bs)
   to-both = (omega (arith, S .weighs, side-shorter (S .derived), side-shorter (S .base)), (side-items (S .derived), side-items (S .base)))
 
   abbrev theMark : Mark

@@ -4,7 +4,8 @@ use mathlib.Core.List.{List}
 use mathlib.Core.Path.{_≡_, refl, ap, _∙_}
 use Prim.Native.Nat.{ℕ, _-_, _≤_, _<_}
 use Rattle.particle.specs.Tree.{tree}
-use Rattle.particle.specs.Rows.{Row, row, laterPart}
+use Rattle.particle.specs.Rows.{row, laterPart}
+use Rattle.particle.specs.Runs.{Run}
 use Rattle.totals.specs.Empty.{emptiable}
 use Rattle.rules.specs.Verdicts.{passes, fails}
 use Rattle.rules.specs.Walk.{leftOver}
@@ -16,7 +17,7 @@ pub record LeftOver (bn : ℕ) (bs t : List ℕ) (j : ℕ) : Type 0 where
   pub goes : leftOver (row bn bs) ≡ leftOver (row j t)
 
 module _ {bn : ℕ} {bs : List ℕ} where
-  pub left-start : Row bn bs → LeftOver bn bs bs bn
+  pub left-start : Run bn bs → LeftOver bn bs bs bn
   left-start w = record { part = part-start w; goes = refl }
 
   module _ {t : List ℕ} {j : ℕ} (w : LeftOver bn bs t j) where

@@ -4,7 +4,8 @@ use mathlib.Core.List.{List}
 use mathlib.Core.Path.{_≡_, refl, ap, _∙_}
 use Prim.Native.Nat.{ℕ, _-_, _≤_, _<_}
 use Rattle.particle.specs.Tree.{Items, Particle, tree}
-use Rattle.particle.specs.Rows.{Row, row, laterPart}
+use Rattle.particle.specs.Rows.{row, laterPart}
+use Rattle.particle.specs.Runs.{Run}
 use Rattle.rules.specs.Verdicts.{Mark, passes, undecided, fails}
 use Rattle.rules.specs.Combine.{_andThen_, _orElse_}
 use Rattle.rules.specs.Walk.{Judge, alternatives, eachMember}
@@ -25,7 +26,7 @@ pub record Members (f : Particle → Mark) (dn : ℕ) (ds : List ℕ) (seen : Bo
   pub goes : eachMember f (row dn ds) ≡ definiteOf seen (eachMember f (row i t))
 
 module _ {f : Particle → Mark} {dn : ℕ} {ds : List ℕ} where
-  pub members-start : Row dn ds → Members f dn ds false ds dn
+  pub members-start : Run dn ds → Members f dn ds false ds dn
   members-start w = record { part = part-start w; goes = refl }
 
   module _ {seen : Bool} {t : List ℕ} {i : ℕ} (w : Members f dn ds seen t i) where
@@ -73,7 +74,7 @@ pub record Alternatives (J : Judge) (reason : ℕ) (x : Particle) (bn : ℕ) (bs
   pub goes : alternatives J reason x (row bn bs) ≡ afterSeen seen (alternatives J reason x (row j t))
 
 module _ {J : Judge} {reason : ℕ} {x : Particle} {bn : ℕ} {bs : List ℕ} where
-  pub alternatives-start : Row bn bs → Alternatives J reason x bn bs false bs bn
+  pub alternatives-start : Run bn bs → Alternatives J reason x bn bs false bs bn
   alternatives-start w = record { part = part-start w; goes = refl }
 
   module _ {seen : Bool} {t : List ℕ} {j : ℕ} (w : Alternatives J reason x bn bs seen t j) where

@@ -4,7 +4,8 @@ use mathlib.Core.List.{List}
 use mathlib.Core.Path.{_≡_, refl, sym, ap, _∙_}
 use Prim.Native.Nat.{ℕ, _-_, _≤_, _<_}
 use Rattle.particle.specs.Tree.{Items, none, item, Particle, tree}
-use Rattle.particle.specs.Rows.{Row, row, laterPart}
+use Rattle.particle.specs.Rows.{row, laterPart}
+use Rattle.particle.specs.Runs.{Run}
 use Rattle.totals.specs.Empty.{emptiable}
 use Rattle.rules.specs.Verdicts.{Mark, passes, undecided, fails}
 use Rattle.rules.specs.Walk.{Judge, leftOver, recurseOrdered}
@@ -65,7 +66,7 @@ module _ (J : Judge) (lax once : Bool) (dn : ℕ) (ds : List ℕ) (bn : ℕ) (bs
     pub goes : theWalk ≡ definiteOf seen (recurseOrdered J lax (cons (asOnce once (tree d)) (eachOnce once (row i dt))) (row j bt))
 
 module _ {J : Judge} {lax once : Bool} {dn : ℕ} {ds : List ℕ} {bn : ℕ} {bs : List ℕ} where
-  pub walk-start : Row dn ds → Row bn bs → Between J lax once dn ds bn bs false ds dn bs bn
+  pub walk-start : Run dn ds → Run bn bs → Between J lax once dn ds bn bs false ds dn bs bn
   walk-start w v = record { derived = part-start w; base = part-start v; goes = refl }
 
   module _ {seen : Bool} {dt : List ℕ} {i : ℕ} {bt : List ℕ} {j : ℕ} (w : Between J lax once dn ds bn bs seen dt i bt j) where

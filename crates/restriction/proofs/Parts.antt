@@ -6,9 +6,11 @@ use native.Mathlib.Nat.{le-refl}
 use native.Mathlib.Omega.{arith}
 use lib.ListN.{length}
 use Rattle.particle.specs.Tree.{Items, none, item, Particle, takeI, countI, decode, tree}
-use Rattle.particle.specs.Rows.{Row, row, laterPart}
+use Rattle.particle.specs.Rows.{row, laterPart}
+use Rattle.particle.specs.Runs.{Run}
 use Rattle.particle.proofs.Trees.{countI-take}
-use Rattle.particle.proofs.Laws.{row-le, row-is, later-row, later-shorter}
+use Rattle.particle.proofs.Laws.{row-is, later-shorter}
+use Rattle.particle.proofs.Runs.{run-le, later-run}
 
 -- a tree in front of others
 abbrev pub cons : Particle → Items → Items
@@ -16,35 +18,35 @@ cons x r = item (x .head) (x .items) r
 
 -- t starts at a tree of the row that `whole` is, n trees before its end
 pub record Part (n : ℕ) (t whole : List ℕ) : Type 0 where
-  pub trees : Row n t
+  pub trees : Run n t
   pub within : length t ≤ length whole
 
-pub part-start : {n : ℕ} {t : List ℕ} → Row n t → Part n t t
+pub part-start : {n : ℕ} {t : List ℕ} → Run n t → Part n t t
 part-start w = record { trees = w; within = le-refl _ }
 
 pub row-none : (n : ℕ) (t : List ℕ) → n ≤ 0 → row n t ≡ none
 unfolding takeI
 row-none n t z = let e : n ≡ 0 = omega arith in rw e
 
-pub row-count : {n : ℕ} {t : List ℕ} → Row n t → countI (row n t) ≡ n
-row-count {n} {t} w = countI-take n (decode t) (w .enough)
+pub row-count : {n : ℕ} {t : List ℕ} → Run n t → countI (row n t) ≡ n
+row-count {n} {t} w = countI-take n (decode t) (w .row .enough)
 
-module _ {n : ℕ} {t : List ℕ} (w : Row n t) (some : 0 < n) where
-  pub first-tree : Row 1 t
-  first-tree = row-le some w
+module _ {n : ℕ} {t : List ℕ} (w : Run n t) (some : 0 < n) where
+  pub first-tree : Run 1 t
+  first-tree = run-le some w
 
-  from-suc : Row (suc (n - 1)) t
-  from-suc = row-le (omega arith) w
+  from-suc : Run (suc (n - 1)) t
+  from-suc = run-le (omega arith) w
 
   -- s is the part after the first tree
   module _ {s : List ℕ} (e : s ≡ laterPart t) where
     pub row-cons : row n t ≡ cons (tree t) (row (n - 1) s)
     row-cons =
         let z : n ≡ suc (n - 1) = omega arith in
-        ap (λ (k : ℕ). row k t) z ∙ (row-is from-suc ∙ rw e)
+        ap (λ (k : ℕ). row k t) z ∙ (row-is (from-suc .row) ∙ rw e)
 
     pub part-next : {whole : List ℕ} → length t ≤ length whole → Part (n - 1) s whole
-    part-next l = rw e (record { trees = later-row from-suc; within = omega (arith, later-shorter from-suc) })
+    part-next l = rw e (record { trees = later-run from-suc; within = omega (arith, later-shorter (from-suc .row)) })
 
 -- What falls with each call: four times the bytes left, and the steps to the next entry of the rule, three at most.
 abbrev pub weight : ℕ → (d b : List ℕ) → ℕ

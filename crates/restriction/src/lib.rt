@@ -1,5 +1,6 @@
 // The mark of two tidied trees: `restrict` selects a rule by the two kinds, and the rules ask it for the marks of items.
 // A part of a tree's bytes that starts at a record stands for the trees from there on; where several are meant, a count goes with it.
+// The trees are measured, so that a step from one item to the next takes no longer where the item is a large group.
 mod pairs;
 mod rows;
 
@@ -10,7 +11,8 @@ ghost use lib.Dec.{leb};
 ghost use Rattle.particle.specs.Occurs.{rangeOk};
 ghost use Rattle.particle.specs.Record.{maxRecords};
 ghost use Rattle.particle.specs.Tree.{tree};
-ghost use Rattle.particle.specs.Rows.{Row, row};
+ghost use Rattle.particle.specs.Rows.{row};
+ghost use Rattle.particle.specs.Runs.{Run};
 ghost use Rattle.totals.specs.Total.{total};
 ghost use Rattle.rules.specs.Combine.{_orFails_, _andThen_, combineReadings};
 ghost use Rattle.rules.specs.Walk.{recurseOrdered, alternatives, eachMember};
@@ -38,8 +40,8 @@ pub fn restrict(
     tables: &[u8],
     n: u8,
 ) -> Verdict
-    requires { ⌜ Row 1 (now d) ⌝ }
-    requires { ⌜ Row 1 (now b) ⌝ }
+    requires { ⌜ Run 1 (now d) ⌝ }
+    requires { ⌜ Run 1 (now b) ⌝ }
     ensures { λ r. ⌜ markOf r ≡ judge (now (leaves .entry)) (now (tables .entry)) n (asOnce once (tree (now (d .entry)))) (asAny any (tree (now (b .entry)))) ⌝ }
 {
     let dr = particle::record_at(d);
@@ -90,8 +92,8 @@ fn recurse_ordered(
     tables: &[u8],
     n: u8,
 ) -> Verdict
-    requires { ⌜ Row dn (now ds) ⌝ }
-    requires { ⌜ Row bn (now bs) ⌝ }
+    requires { ⌜ Run dn (now ds) ⌝ }
+    requires { ⌜ Run bn (now bs) ⌝ }
     ensures { λ r. ⌜ markOf r ≡ recurseOrdered (judge (now (leaves .entry)) (now (tables .entry)) n) lax (eachOnce once (row dn (now (ds .entry)))) (row bn (now (bs .entry))) ⌝ }
 {
     let mut seen = false;
@@ -101,12 +103,12 @@ fn recurse_ordered(
     let mut j = bn;
     'derived: while 0 < i {
         let d = ditems;
-        let dnext = particle::later(d);
+        let dnext = particle::next(d);
         ditems = dnext;
         i -= 1;
         'base: while 0 < j {
             let b = bitems;
-            let bnext = particle::later(b);
+            let bnext = particle::next(b);
             bitems = bnext;
             j -= 1;
             match restrict(d, once, b, false, leaves, tables, n) {
@@ -147,8 +149,8 @@ fn any_alternative(
     tables: &[u8],
     n: u8,
 ) -> Verdict
-    requires { ⌜ Row 1 (now d) ⌝ }
-    requires { ⌜ Row bn (now bs) ⌝ }
+    requires { ⌜ Run 1 (now d) ⌝ }
+    requires { ⌜ Run bn (now bs) ⌝ }
     ensures { λ r. ⌜ markOf r ≡ alternatives (judge (now (leaves .entry)) (now (tables .entry)) n) (reasonNumber reason) (asOnce once (tree (now (d .entry)))) (row bn (now (bs .entry))) ⌝ }
 {
     let mut seen = false;
@@ -156,7 +158,7 @@ fn any_alternative(
     let mut left = bn;
     while 0 < left {
         let b = bitems;
-        let next = particle::later(b);
+        let next = particle::next(b);
         bitems = next;
         left -= 1;
         match restrict(d, once, b, false, leaves, tables, n) {
@@ -186,8 +188,8 @@ fn same_kind(
     tables: &[u8],
     n: u8,
 ) -> Verdict
-    requires { ⌜ Row dn (now ds) ⌝ }
-    requires { ⌜ Row bn (now bs) ⌝ }
+    requires { ⌜ Run dn (now ds) ⌝ }
+    requires { ⌜ Run bn (now bs) ⌝ }
     ensures { λ r. ⌜ markOf r ≡ rangeOk p q orFails rangeReason lax andThen recurseOrdered (judge (now (leaves .entry)) (now (tables .entry)) n) lax (eachOnce once (row dn (now (ds .entry)))) (row bn (now (bs .entry))) ⌝ }
 {
     if particle::range_ok(p, q) {
@@ -211,8 +213,8 @@ fn element_sequence(
     tables: &[u8],
     n: u8,
 ) -> Verdict
-    requires { ⌜ Row 1 (now d) ⌝ }
-    requires { ⌜ Row bn (now bs) ⌝ }
+    requires { ⌜ Run 1 (now d) ⌝ }
+    requires { ⌜ Run bn (now bs) ⌝ }
     ensures { λ r. ⌜ markOf r ≡ combineReadings (rangeOk p q orFails 105 andThen recurseOrdered (judge (now (leaves .entry)) (now (tables .entry)) n) false (eachOnce true (row 1 (now (d .entry)))) (row bn (now (bs .entry)))) (leb (q .min) 1 orFails 110 andThen recurseOrdered (judge (now (leaves .entry)) (now (tables .entry)) n) false (eachOnce once (row 1 (now (d .entry)))) (row bn (now (bs .entry)))) ⌝ }
 {
     let wrapped = same_kind(d, 1, true, p, bs, bn, q, false, leaves, tables, n);
@@ -238,8 +240,8 @@ fn element_choice(
     tables: &[u8],
     n: u8,
 ) -> Verdict
-    requires { ⌜ Row 1 (now d) ⌝ }
-    requires { ⌜ Row bn (now bs) ⌝ }
+    requires { ⌜ Run 1 (now d) ⌝ }
+    requires { ⌜ Run bn (now bs) ⌝ }
     ensures { λ r. ⌜ markOf r ≡ combineReadings (rangeOk p q orFails 106 andThen recurseOrdered (judge (now (leaves .entry)) (now (tables .entry)) n) true (eachOnce true (row 1 (now (d .entry)))) (row bn (now (bs .entry)))) (leb (q .min) 1 orFails 112 andThen alternatives (judge (now (leaves .entry)) (now (tables .entry)) n) 111 (asOnce once (tree (now (d .entry)))) (row bn (now (bs .entry)))) ⌝ }
 {
     let wrapped = same_kind(d, 1, true, p, bs, bn, q, true, leaves, tables, n);
@@ -264,9 +266,9 @@ fn group_wildcard(
     tables: &[u8],
     n: u8,
 ) -> Verdict
-    requires { ⌜ Row 1 (now group) ⌝ }
-    requires { ⌜ Row dn (now ds) ⌝ }
-    requires { ⌜ Row 1 (now b) ⌝ }
+    requires { ⌜ Run 1 (now group) ⌝ }
+    requires { ⌜ Run dn (now ds) ⌝ }
+    requires { ⌜ Run 1 (now b) ⌝ }
     ensures { λ r. ⌜ markOf r ≡ rangeOk (total (tree (now (group .entry)))) q orFails 113 andThen eachMember (λ x. judge (now (leaves .entry)) (now (tables .entry)) n x (asAny true (tree (now (b .entry))))) (row dn (now (ds .entry))) ⌝ }
 {
     if !particle::range_ok(totals::effective_total_range(group), q) {
@@ -277,7 +279,7 @@ fn group_wildcard(
     let mut left = dn;
     while 0 < left {
         let d = members;
-        let next = particle::later(d);
+        let next = particle::next(d);
         members = next;
         left -= 1;
         match restrict(d, false, b, true, leaves, tables, n) {
@@ -305,9 +307,9 @@ fn sequence_choice(
     tables: &[u8],
     n: u8,
 ) -> Verdict
-    requires { ⌜ Row dn (now ds) ⌝ }
+    requires { ⌜ Run dn (now ds) ⌝ }
     requires { ⌜ dn ≤ maxRecords ⌝ }
-    requires { ⌜ Row bn (now bs) ⌝ }
+    requires { ⌜ Run bn (now bs) ⌝ }
     ensures { λ r. ⌜ markOf r ≡ rangeOk (timesCount p dn) q orFails 116 andThen eachMember (λ x. alternatives (judge (now (leaves .entry)) (now (tables .entry)) n) 117 x (row bn (now (bs .entry)))) (row dn (now (ds .entry))) ⌝ }
 {
     if !particle::range_ok(times_count(p, dn as u32), q) {
@@ -318,7 +320,7 @@ fn sequence_choice(
     let mut left = dn;
     while 0 < left {
         let d = members;
-        let next = particle::later(d);
+        let next = particle::next(d);
         members = next;
         left -= 1;
         let reason = Reason::MemberAlternative;

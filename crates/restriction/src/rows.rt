@@ -4,6 +4,7 @@ ghost use Prim.Native.Nat.{_≤_};
 ghost use Rattle.particle.specs.Occurs.{rangeOk};
 ghost use Rattle.particle.specs.Record.{maxRecords};
 ghost use Rattle.particle.specs.Rows.{Row, row};
+ghost use Rattle.particle.specs.Runs.{Run};
 ghost use Rattle.rules.specs.Combine.{_orFails_, _andThen_};
 ghost use Rattle.rules.specs.Walk.{leftOver, recurseUnordered};
 ghost use Rattle.verdicts.specs.Reasons.{markOf};
@@ -15,7 +16,7 @@ use verdicts::Verdict;
 
 // The first bn trees of bs, left over in an ordered walk: one that is not emptiable is missing.
 pub fn left_over(bs: &[u8], bn: usize) -> Verdict
-    requires { ⌜ Row bn (now bs) ⌝ }
+    requires { ⌜ Run bn (now bs) ⌝ }
     ensures { λ r. ⌜ markOf r ≡ leftOver (row bn (now (bs .entry))) ⌝ }
 {
     let mut bitems = bs;
@@ -24,7 +25,7 @@ pub fn left_over(bs: &[u8], bn: usize) -> Verdict
         if !totals::emptiable(bitems) {
             return Verdict::Violation(Reason::RequiredMissing);
         }
-        let next = particle::later(bitems);
+        let next = particle::next(bitems);
         bitems = next;
         j -= 1;
     }

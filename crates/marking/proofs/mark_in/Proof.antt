@@ -3,7 +3,7 @@ use borrow.Author.Needs.{needs}
 use denote.Ref.{now}
 use Rattle.sheet.proofs.Contents.{contents}
 use Rattle.sheet.proofs.AcceptedSheet.{passed, derived-row, base-row, derived-faithful, base-faithful}
-use Rattle.marking.proofs.TidiedPart.{part-row, part-tree, part-length}
+use Rattle.marking.proofs.TidiedPart.{part-length}
 use Rattle.marking.proofs.Marking.{accepted-mark}
 use Rattle.marking.proofs.mark_in.Statement.{statement}
 use Rattle.marking.proofs.mark_in.Tie as tie
@@ -11,20 +11,20 @@ use Rattle.marking.proofs.mark_in.Tie as tie
 derived-requires : tie.Need-derived-requires
 derived-requires c κs = passed _ (c .before .before .before .pre .0) .contents
 
-normalize-in-requires : tie.Need-normalize-in-requires
-normalize-in-requires c κs =
+prepare-requires : tie.Need-prepare-requires
+prepare-requires c κs =
     let pre = c .before .before .before .before .before .pre in
     let p = passed _ (pre .0) in
-    rw (c .before .derived .ensures) (derived-row p, (derived-faithful p, (pre .1 .0 .room, pre .1 .0 .most)))
+    rw (c .before .derived .ensures) (derived-row p, (derived-faithful p, pre .1 .0))
 
 base-requires : tie.Need-base-requires
 base-requires c κs = passed _ (c .before .before .before .before .before .before .before .before .pre .0) .contents
 
-normalize-in-requires-2 : tie.Need-normalize-in-requires-2
-normalize-in-requires-2 c κs =
+prepare-requires-2 : tie.Need-prepare-requires-2
+prepare-requires-2 c κs =
     let pre = c .before .before .before .before .before .before .before .before .before .before .pre in
     let p = passed _ (pre .0) in
-    rw (c .before .base .ensures) (base-row p, (base-faithful p, (pre .1 .1 .room, pre .1 .1 .most)))
+    rw (c .before .base .ensures) (base-row p, (base-faithful p, pre .1 .1))
 
 slice-reshare-prefix-mark-tidied : tie.Need-slice-reshare-prefix-mark-tidied
 slice-reshare-prefix-mark-tidied c = search needs
@@ -32,7 +32,7 @@ slice-reshare-prefix-mark-tidied c = search needs
 slice-aggregate-mark-tidied : tie.Need-slice-aggregate-mark-tidied
 slice-aggregate-mark-tidied c =
     let d = c .before .before .before .before .before .before .before .before in
-    part-length (now (d .before .before .derived .result)) (d .normalize-in .ensures)
+    part-length (d .prepare .ensures)
 
 slice-reshare-prefix-mark-tidied-2 : tie.Need-slice-reshare-prefix-mark-tidied-2
 slice-reshare-prefix-mark-tidied-2 c = search needs
@@ -40,7 +40,7 @@ slice-reshare-prefix-mark-tidied-2 c = search needs
 slice-aggregate-mark-tidied-2 : tie.Need-slice-aggregate-mark-tidied-2
 slice-aggregate-mark-tidied-2 c =
     let b = c .before .before .before .before in
-    part-length (now (b .before .before .base .result)) (b .normalize-in2 .ensures)
+    part-length (b .prepare2 .ensures)
 
 leaves-requires : tie.Need-leaves-requires
 leaves-requires c κs = passed _ (c .before .before .before .before .before .before .before .before .before .before .before .before .before .before .before .pre .0) .contents
@@ -54,10 +54,7 @@ leaf-count-requires c κs =
     contents (now (a .args .s)) (passed (now (a .args .s)) (a .pre .0) .contents) .start
 
 mark-tidied-requires : tie.Need-mark-tidied-requires
-mark-tidied-requires c κs =
-    let b = c .before .before .before .before .before .before .before in
-    let d = b .before .before .before .before .before in
-    (part-row (now (d .before .before .derived .result)) (d .normalize-in .ensures), part-row (now (b .before .before .base .result)) (b .normalize-in2 .ensures))
+mark-tidied-requires c κs = search needs
 
 same-length : tie.Need-same-length
 same-length c = search needs
@@ -71,8 +68,8 @@ returns c =
     let d = b .before .before .before .before .before in
     accepted-mark _
     (c .before .before .before .leaves .ensures) (c .before .before .tables .ensures) (c .before .leaf-count .ensures)
-    (part-tree (now (d .before .before .derived .result)) (d .normalize-in .ensures)) (d .before .before .derived .ensures)
-    (part-tree (now (b .before .before .base .result)) (b .normalize-in2 .ensures)) (b .before .before .base .ensures)
+    (d .prepare .ensures .same) (d .before .before .derived .ensures)
+    (b .prepare2 .ensures .same) (b .before .before .base .ensures)
     (c .mark-tidied .ensures)
 
 pub mark-in-spec : {M : Type 1} → statement M
@@ -80,9 +77,9 @@ mark-in-spec =
     tie.close
     (tie.spec
     derived-requires
-    normalize-in-requires
+    prepare-requires
     base-requires
-    normalize-in-requires-2
+    prepare-requires-2
     slice-reshare-prefix-mark-tidied
     slice-aggregate-mark-tidied
     slice-reshare-prefix-mark-tidied-2

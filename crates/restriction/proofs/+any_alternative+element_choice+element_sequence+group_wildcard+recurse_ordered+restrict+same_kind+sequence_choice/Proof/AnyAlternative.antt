@@ -22,8 +22,8 @@ module _ (t : ℕ) where
   loop-holds : lts.Need-loop-holds (any-alternative-calls t) (any-alternative-at t) reads.Post Inv-loop μ-loop
   loop-holds c = alternatives-start (c .before .before .before .before .pre .1 .1)
 
-  later-requires : lts.Need-later-requires (any-alternative-calls t) (any-alternative-at t) reads.Post Inv-loop μ-loop
-  later-requires c κs = first-tree (c .before .loop .inv .part .trees) (c .loop-test .taken)
+  next-requires : lts.Need-next-requires (any-alternative-calls t) (any-alternative-at t) reads.Post Inv-loop μ-loop
+  next-requires c κs = first-tree (c .before .loop .inv .part .trees) (c .loop-test .taken)
 
   restrict-requires : lts.Need-restrict-requires (any-alternative-calls t) (any-alternative-at t) reads.Post Inv-loop μ-loop
   restrict-requires c κs =
@@ -33,17 +33,17 @@ module _ (t : ℕ) where
   returns : lts.Need-returns (any-alternative-calls t) (any-alternative-at t) reads.Post Inv-loop μ-loop
   returns c =
       let d = c .before .before in
-      sym (alternative-passes (d .before .before .before .loop .inv) (d .before .before .loop-test .taken) (d .before .later .ensures) (d .restrict .ensures) (c .enum-told .given .1))
+      sym (alternative-passes (d .before .before .before .loop .inv) (d .before .before .loop-test .taken) (d .before .next .ensures) (d .restrict .ensures) (c .enum-told .given .1))
 
   loop-again : lts.Need-loop-again (any-alternative-calls t) (any-alternative-at t) reads.Post Inv-loop μ-loop
   loop-again c =
       let d = c .before .before in
-      alternative-undecided (d .before .before .before .loop .inv) (d .before .before .loop-test .taken) (d .before .later .ensures) (d .restrict .ensures) (c .enum-told2 .given .1)
+      alternative-undecided (d .before .before .before .loop .inv) (d .before .before .loop-test .taken) (d .before .next .ensures) (d .restrict .ensures) (c .enum-told2 .given .1)
 
   loop-again-2 : lts.Need-loop-again-2 (any-alternative-calls t) (any-alternative-at t) reads.Post Inv-loop μ-loop
   loop-again-2 c =
       let d = c .before .before in
-      alternative-fails (d .before .before .before .loop .inv) (d .before .before .loop-test .taken) (d .before .later .ensures) (d .restrict .ensures) (c .enum-told3 .given .1)
+      alternative-fails (d .before .before .before .loop .inv) (d .before .before .loop-test .taken) (d .before .next .ensures) (d .restrict .ensures) (c .enum-told3 .given .1)
 
   returns-2 : lts.Need-returns-2 (any-alternative-calls t) (any-alternative-at t) reads.Post Inv-loop μ-loop
   returns-2 c = c .definite .ensures ∙ sym (alternatives-end (c .before .before .loop .inv) (c .before .loop-test .left))
@@ -54,7 +54,7 @@ any-alternative-closed t =
     Inv-loop
     μ-loop
     (loop-holds t)
-    (later-requires t)
+    (next-requires t)
     (λ c. omega arith)
     (restrict-requires t)
     (λ c. search needs)

@@ -3,7 +3,7 @@ use Prim.Native.Nat.{ℕ, _<_}
 use borrow.Fn.Kinds.{In}
 use borrow.Fn.PlainCycle.{Measures, is, falls, and}
 use Rattle.particle.proofs.items.Reads as items-reads
-use Rattle.particle.proofs.later.Reads as later-reads
+use Rattle.particle.proofs.next.Reads as next-reads
 use Rattle.particle.proofs.range_ok.Reads as range-ok-reads
 use Rattle.particle.proofs.record_at.Reads as record-at-reads
 use Rattle.restriction.proofs.pairs.base_range.Reads as base-range-reads
@@ -120,7 +120,7 @@ module _ (t : ℕ) where
   sequence-choice-below = and 4 sequence-choice-kinds.ps (falls 4 sequence-choice-kinds.ps _<_ μ-sequence-choice t) sequence-choice.Pre
 
   abbrev pub any-alternative-calls : any-alternative-lts.Claims
-  any-alternative-calls = (later-reads.Asked, later-reads.Learnt, restrict-below, restrict.Post, definite-reads.Asked, definite-reads.Learnt)
+  any-alternative-calls = (next-reads.Asked, next-reads.Learnt, restrict-below, restrict.Post, definite-reads.Asked, definite-reads.Learnt)
 
   abbrev pub element-choice-calls : element-choice-lts.Claims
   element-choice-calls = (same-kind-below, same-kind.Post, combine-readings-reads.Asked, combine-readings-reads.Learnt, any-alternative-below, any-alternative.Post)
@@ -129,10 +129,10 @@ module _ (t : ℕ) where
   element-sequence-calls = (same-kind-below, same-kind.Post, combine-readings-reads.Asked, combine-readings-reads.Learnt, recurse-ordered-below, recurse-ordered.Post)
 
   abbrev pub group-wildcard-calls : group-wildcard-lts.Claims
-  group-wildcard-calls = (effective-total-range-reads.Asked, effective-total-range-reads.Learnt, range-ok-reads.Asked, range-ok-reads.Learnt, later-reads.Asked, later-reads.Learnt, restrict-below, restrict.Post, definite-reads.Asked, definite-reads.Learnt)
+  group-wildcard-calls = (effective-total-range-reads.Asked, effective-total-range-reads.Learnt, range-ok-reads.Asked, range-ok-reads.Learnt, next-reads.Asked, next-reads.Learnt, restrict-below, restrict.Post, definite-reads.Asked, definite-reads.Learnt)
 
   abbrev pub recurse-ordered-calls : recurse-ordered-lts.Claims
-  recurse-ordered-calls = (later-reads.Asked, later-reads.Learnt, restrict-below, restrict.Post, emptiable-reads.Asked, emptiable-reads.Learnt, definite-reads.Asked, definite-reads.Learnt, left-over-reads.Asked, left-over-reads.Learnt)
+  recurse-ordered-calls = (next-reads.Asked, next-reads.Learnt, restrict-below, restrict.Post, emptiable-reads.Asked, emptiable-reads.Learnt, definite-reads.Asked, definite-reads.Learnt, left-over-reads.Asked, left-over-reads.Learnt)
 
   abbrev pub restrict-calls : restrict-lts.Claims
   restrict-calls = (record-at-reads.Asked, record-at-reads.Learnt, derived-range-reads.Asked, derived-range-reads.Learnt, base-range-reads.Asked, base-range-reads.Learnt, items-reads.Asked, items-reads.Learnt, exactly-one-reads.Asked, exactly-one-reads.Learnt, kind-of-reads.Asked, kind-of-reads.Learnt, element-restrict-reads.Asked, element-restrict-reads.Learnt, element-wildcard-reads.Asked, element-wildcard-reads.Learnt, element-sequence-below, element-sequence.Post, element-choice-below, element-choice.Post, wildcard-wildcard-reads.Asked, wildcard-wildcard-reads.Learnt, same-kind-below, same-kind.Post, group-wildcard-below, group-wildcard.Post, sequence-choice-below, sequence-choice.Post, group-all-reads.Asked, group-all-reads.Learnt)
@@ -141,4 +141,4 @@ module _ (t : ℕ) where
   same-kind-calls = (range-ok-reads.Asked, range-ok-reads.Learnt, recurse-ordered-below, recurse-ordered.Post)
 
   abbrev pub sequence-choice-calls : sequence-choice-lts.Claims
-  sequence-choice-calls = (times-count-reads.Asked, times-count-reads.Learnt, range-ok-reads.Asked, range-ok-reads.Learnt, later-reads.Asked, later-reads.Learnt, any-alternative-below, any-alternative.Post, definite-reads.Asked, definite-reads.Learnt)
+  sequence-choice-calls = (times-count-reads.Asked, times-count-reads.Learnt, range-ok-reads.Asked, range-ok-reads.Learnt, next-reads.Asked, next-reads.Learnt, any-alternative-below, any-alternative.Post, definite-reads.Asked, definite-reads.Learnt)

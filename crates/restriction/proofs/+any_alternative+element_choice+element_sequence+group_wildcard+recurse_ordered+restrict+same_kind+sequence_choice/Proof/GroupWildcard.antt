@@ -21,7 +21,7 @@ abbrev μ-loop : lts.MeasureT-loop
 
 module _ (t : ℕ) where
   effective-total-range-requires : lts.Need-effective-total-range-requires (group-wildcard-calls t) (group-wildcard-at t) reads.Post Inv-loop μ-loop
-  effective-total-range-requires c κs = c .before .before .before .before .before .pre .1 .0
+  effective-total-range-requires c κs = c .before .before .before .before .before .pre .1 .0 .row
 
   returns : lts.Need-returns (group-wildcard-calls t) (group-wildcard-at t) reads.Post Inv-loop μ-loop
   returns c = rw (← c .before .before .effective-total-range .ensures, ← c .before .range-ok .ensures, not-true (c .before .range-ok .result) (c .if1 .taken))
@@ -29,8 +29,8 @@ module _ (t : ℕ) where
   loop-holds : lts.Need-loop-holds (group-wildcard-calls t) (group-wildcard-at t) reads.Post Inv-loop μ-loop
   loop-holds c = members-start (c .before .before .before .before .before .before .before .before .pre .1 .1 .0)
 
-  later-requires : lts.Need-later-requires (group-wildcard-calls t) (group-wildcard-at t) reads.Post Inv-loop μ-loop
-  later-requires c κs = first-tree (c .before .loop .inv .part .trees) (c .loop-test .taken)
+  next-requires : lts.Need-next-requires (group-wildcard-calls t) (group-wildcard-at t) reads.Post Inv-loop μ-loop
+  next-requires c κs = first-tree (c .before .loop .inv .part .trees) (c .loop-test .taken)
 
   restrict-requires : lts.Need-restrict-requires (group-wildcard-calls t) (group-wildcard-at t) reads.Post Inv-loop μ-loop
   restrict-requires c κs =
@@ -40,19 +40,19 @@ module _ (t : ℕ) where
   loop-again : lts.Need-loop-again (group-wildcard-calls t) (group-wildcard-at t) reads.Post Inv-loop μ-loop
   loop-again c =
       let d = c .before .before in
-      member-passes (d .before .before .before .loop .inv) (d .before .before .loop-test .taken) (d .before .later .ensures) (d .restrict .ensures) (c .enum-told .given .1)
+      member-passes (d .before .before .before .loop .inv) (d .before .before .loop-test .taken) (d .before .next .ensures) (d .restrict .ensures) (c .enum-told .given .1)
 
   loop-again-2 : lts.Need-loop-again-2 (group-wildcard-calls t) (group-wildcard-at t) reads.Post Inv-loop μ-loop
   loop-again-2 c =
       let d = c .before .before in
-      member-undecided (d .before .before .before .loop .inv) (d .before .before .loop-test .taken) (d .before .later .ensures) (d .restrict .ensures) (c .enum-told2 .given .1)
+      member-undecided (d .before .before .before .loop .inv) (d .before .before .loop-test .taken) (d .before .next .ensures) (d .restrict .ensures) (c .enum-told2 .given .1)
 
   returns-2 : lts.Need-returns-2 (group-wildcard-calls t) (group-wildcard-at t) reads.Post Inv-loop μ-loop
   returns-2 c =
       let d = c .before .before .before .before in
       let f = d .before .before .before .before in
       rw (← f .before .before .effective-total-range .ensures, ← f .before .range-ok .ensures, not-false (f .before .range-ok .result) (f .if1 .left))
-      (c .definite .ensures ∙ sym (member-fails (d .before .before .before .loop .inv) (d .before .before .loop-test .taken) (d .before .later .ensures) (d .restrict .ensures) (c .before .before .r .given .1)))
+      (c .definite .ensures ∙ sym (member-fails (d .before .before .before .loop .inv) (d .before .before .loop-test .taken) (d .before .next .ensures) (d .restrict .ensures) (c .before .before .r .given .1)))
 
   returns-3 : lts.Need-returns-3 (group-wildcard-calls t) (group-wildcard-at t) reads.Post Inv-loop μ-loop
   returns-3 c =
@@ -69,7 +69,7 @@ group-wildcard-closed t =
     (λ c κs. search needs)
     (returns t)
     (loop-holds t)
-    (later-requires t)
+    (next-requires t)
     (λ c. omega arith)
     (restrict-requires t)
     (λ c. search needs)

@@ -28,14 +28,14 @@ module _ (t : ℕ) where
       let w = c .before .before .before .before .pre .1 in
       walk-start (w .0) (w .1)
 
-  later-requires : lts.Need-later-requires (recurse-ordered-calls t) (recurse-ordered-at t) reads.Post Inv-base μ-base Inv-derived μ-derived
-  later-requires c κs = first-tree (c .before .derived .inv .derived .trees) (c .derived-test .taken)
+  next-requires : lts.Need-next-requires (recurse-ordered-calls t) (recurse-ordered-at t) reads.Post Inv-base μ-base Inv-derived μ-derived
+  next-requires c κs = first-tree (c .before .derived .inv .derived .trees) (c .derived-test .taken)
 
   base-holds : lts.Need-base-holds (recurse-ordered-calls t) (recurse-ordered-at t) reads.Post Inv-base μ-base Inv-derived μ-derived
-  base-holds c = walk-try (c .before .before .derived .inv) (c .before .derived-test .taken) (c .later .ensures)
+  base-holds c = walk-try (c .before .before .derived .inv) (c .before .derived-test .taken) (c .next .ensures)
 
-  later-requires-2 : lts.Need-later-requires-2 (recurse-ordered-calls t) (recurse-ordered-at t) reads.Post Inv-base μ-base Inv-derived μ-derived
-  later-requires-2 c κs = first-tree (c .before .base .inv .base .trees) (c .base-test .taken)
+  next-requires-2 : lts.Need-next-requires-2 (recurse-ordered-calls t) (recurse-ordered-at t) reads.Post Inv-base μ-base Inv-derived μ-derived
+  next-requires-2 c κs = first-tree (c .before .base .inv .base .trees) (c .base-test .taken)
 
   restrict-requires : lts.Need-restrict-requires (recurse-ordered-calls t) (recurse-ordered-at t) reads.Post Inv-base μ-base Inv-derived μ-derived
   restrict-requires c κs =
@@ -45,32 +45,32 @@ module _ (t : ℕ) where
   derived-again : lts.Need-derived-again (recurse-ordered-calls t) (recurse-ordered-at t) reads.Post Inv-base μ-base Inv-derived μ-derived
   derived-again c =
       let d = c .before .before in
-      both-advance (d .before .before .before .base .inv) (d .before .before .base-test .taken) (d .before .later2 .ensures) (d .restrict .ensures) (c .enum-told .given .1)
+      both-advance (d .before .before .before .base .inv) (d .before .before .base-test .taken) (d .before .next2 .ensures) (d .restrict .ensures) (c .enum-told .given .1)
 
   derived-again-2 : lts.Need-derived-again-2 (recurse-ordered-calls t) (recurse-ordered-at t) reads.Post Inv-base μ-base Inv-derived μ-derived
   derived-again-2 c =
       let d = c .before .before in
-      seen-advance (d .before .before .before .base .inv) (d .before .before .base-test .taken) (d .before .later2 .ensures) (d .restrict .ensures) (c .enum-told2 .given .1)
+      seen-advance (d .before .before .before .base .inv) (d .before .before .base-test .taken) (d .before .next2 .ensures) (d .restrict .ensures) (c .enum-told2 .given .1)
 
   base-again : lts.Need-base-again (recurse-ordered-calls t) (recurse-ordered-at t) reads.Post Inv-base μ-base Inv-derived μ-derived
   base-again c =
       let d = c .before .before .before .before in
-      skip-lax (d .before .before .before .base .inv) (d .before .before .base-test .taken) (d .before .later2 .ensures) (d .restrict .ensures) (c .before .before .r .given .1) (c .if1 .taken)
+      skip-lax (d .before .before .before .base .inv) (d .before .before .base-test .taken) (d .before .next2 .ensures) (d .restrict .ensures) (c .before .before .r .given .1) (c .if1 .taken)
 
   emptiable-requires : lts.Need-emptiable-requires (recurse-ordered-calls t) (recurse-ordered-at t) reads.Post Inv-base μ-base Inv-derived μ-derived
   emptiable-requires c κs =
       let d = c .before .before .before .before in
-      first-tree (d .before .before .before .base .inv .base .trees) (d .before .before .base-test .taken)
+      first-tree (d .before .before .before .base .inv .base .trees) (d .before .before .base-test .taken) .row
 
   base-again-2 : lts.Need-base-again-2 (recurse-ordered-calls t) (recurse-ordered-at t) reads.Post Inv-base μ-base Inv-derived μ-derived
   base-again-2 c =
       let d = c .before .before .before .before .before .before in
-      skip-emptiable (d .before .before .before .base .inv) (d .before .before .base-test .taken) (d .before .later2 .ensures) (d .restrict .ensures) (c .before .before .before .before .r .given .1) (c .before .before .if1 .left) (c .before .emptiable .ensures) (c .if2 .taken)
+      skip-emptiable (d .before .before .before .base .inv) (d .before .before .base-test .taken) (d .before .next2 .ensures) (d .restrict .ensures) (c .before .before .before .before .r .given .1) (c .before .before .if1 .left) (c .before .emptiable .ensures) (c .if2 .taken)
 
   returns : lts.Need-returns (recurse-ordered-calls t) (recurse-ordered-at t) reads.Post Inv-base μ-base Inv-derived μ-derived
   returns c =
       let d = c .before .before .before .before .before .before .before in
-      c .definite .ensures ∙ sym (item-fails (d .before .before .before .base .inv) (d .before .before .base-test .taken) (d .before .later2 .ensures) (d .restrict .ensures) (c .before .before .before .before .before .r .given .1) (c .before .before .before .if1 .left) (c .before .before .emptiable .ensures) (c .before .if2 .left))
+      c .definite .ensures ∙ sym (item-fails (d .before .before .before .base .inv) (d .before .before .base-test .taken) (d .before .next2 .ensures) (d .restrict .ensures) (c .before .before .before .before .before .r .given .1) (c .before .before .before .if1 .left) (c .before .before .emptiable .ensures) (c .before .if2 .left))
 
   returns-2 : lts.Need-returns-2 (recurse-ordered-calls t) (recurse-ordered-at t) reads.Post Inv-base μ-base Inv-derived μ-derived
   returns-2 c = c .definite2 .ensures ∙ sym (used-up (c .before .before .base .inv) (c .before .base-test .left))
@@ -92,10 +92,10 @@ recurse-ordered-closed t =
     Inv-derived
     μ-derived
     (derived-holds t)
-    (later-requires t)
+    (next-requires t)
     (λ c. omega arith)
     (base-holds t)
-    (later-requires-2 t)
+    (next-requires-2 t)
     (λ c. omega arith)
     (restrict-requires t)
     (λ c. search needs)

@@ -33,12 +33,12 @@ pub restrict-closed : {M : Type 1} (t : ℕ) → lts.Closed (restrict-calls t) (
 unfolding rule
 restrict-closed t =
     lts.spec (restrict-calls t) (restrict-at t) reads.Post
-    (λ c κs. some-bytes (c .before .before .before .before .pre .1 .0))
-    (λ c κs. some-bytes (c .before .before .before .before .before .pre .1 .1))
+    (λ c κs. some-bytes (c .before .before .before .before .pre .1 .0 .row))
+    (λ c κs. some-bytes (c .before .before .before .before .before .pre .1 .1 .row))
     (λ c κs. search needs)
     (λ c κs. search needs)
-    (λ c κs. c .before .before .before .before .before .before .before .before .pre .1 .0)
-    (λ c κs. c .before .before .before .before .before .before .before .before .before .pre .1 .1)
+    (λ c κs. c .before .before .before .before .before .before .before .before .pre .1 .0 .row)
+    (λ c κs. c .before .before .before .before .before .before .before .before .before .pre .1 .1 .row)
     (λ c. search needs)
     (λ c. search needs)
     (λ c κs. search needs)
@@ -55,12 +55,12 @@ restrict-closed t =
     (λ c κs. to-members (sides t (c .before)))
     (λ c κs. to-both (sides t (c .before)))
     (λ c κs. let w = to-both (sides t (c .before)) in (w .0, (w .1 .0, (omega arith, w .1 .1))))
-    (λ c κs. let w = to-both (sides t (c .before)) in (w .1 .0, (w .1 .1, omega arith)))
+    (λ c κs. let w = to-both (sides t (c .before)) in (w .1 .0 .row, (w .1 .1 .row, omega arith)))
     (λ c κs. to-derived (sides t (c .before)))
     (λ c κs. to-members (sides t (c .before)))
     (λ c κs. to-both (sides t (c .before)))
     (λ c κs. to-members (sides t (c .before)))
-    (λ c κs. let w = to-both (sides t (c .before)) in (w .1 .0, (w .1 .1, omega arith)))
+    (λ c κs. let w = to-both (sides t (c .before)) in (w .1 .0 .row, (w .1 .1 .row, omega arith)))
     -- the arms, in the match's order
     (λ c. c .element-restrict .ensures ∙ sym (arm (sides t (c .before .before)) 0 0 (omega arith) (c .before .match .keys1)))
     (λ c. c .element-wildcard .ensures ∙ sym (arm (sides t (c .before .before)) 0 1 (omega arith) (c .before .match .keys2)))

@@ -33,8 +33,8 @@ module _ (t : ℕ) where
   loop-holds : lts.Need-loop-holds (sequence-choice-calls t) (sequence-choice-at t) reads.Post Inv-loop μ-loop
   loop-holds c = members-start (c .before .before .before .before .before .before .before .pre .1 .0)
 
-  later-requires : lts.Need-later-requires (sequence-choice-calls t) (sequence-choice-at t) reads.Post Inv-loop μ-loop
-  later-requires c κs = first-tree (c .before .loop .inv .part .trees) (c .loop-test .taken)
+  next-requires : lts.Need-next-requires (sequence-choice-calls t) (sequence-choice-at t) reads.Post Inv-loop μ-loop
+  next-requires c κs = first-tree (c .before .loop .inv .part .trees) (c .loop-test .taken)
 
   any-alternative-requires : lts.Need-any-alternative-requires (sequence-choice-calls t) (sequence-choice-at t) reads.Post Inv-loop μ-loop
   any-alternative-requires c κs =
@@ -44,19 +44,19 @@ module _ (t : ℕ) where
   loop-again : lts.Need-loop-again (sequence-choice-calls t) (sequence-choice-at t) reads.Post Inv-loop μ-loop
   loop-again c =
       let d = c .before .before in
-      member-passes (d .before .before .before .loop .inv) (d .before .before .loop-test .taken) (d .before .later .ensures) (d .any-alternative .ensures) (c .enum-told .given .1)
+      member-passes (d .before .before .before .loop .inv) (d .before .before .loop-test .taken) (d .before .next .ensures) (d .any-alternative .ensures) (c .enum-told .given .1)
 
   loop-again-2 : lts.Need-loop-again-2 (sequence-choice-calls t) (sequence-choice-at t) reads.Post Inv-loop μ-loop
   loop-again-2 c =
       let d = c .before .before in
-      member-undecided (d .before .before .before .loop .inv) (d .before .before .loop-test .taken) (d .before .later .ensures) (d .any-alternative .ensures) (c .enum-told2 .given .1)
+      member-undecided (d .before .before .before .loop .inv) (d .before .before .loop-test .taken) (d .before .next .ensures) (d .any-alternative .ensures) (c .enum-told2 .given .1)
 
   returns-2 : lts.Need-returns-2 (sequence-choice-calls t) (sequence-choice-at t) reads.Post Inv-loop μ-loop
   returns-2 c =
       let d = c .before .before .before .before in
       let f = d .before .before .before .before in
       rw (sym (total-ok (f .before)) ∙ not-false (f .before .range-ok .result) (f .if1 .left))
-      (c .definite .ensures ∙ sym (member-fails (d .before .before .before .loop .inv) (d .before .before .loop-test .taken) (d .before .later .ensures) (d .any-alternative .ensures) (c .before .before .r .given .1)))
+      (c .definite .ensures ∙ sym (member-fails (d .before .before .before .loop .inv) (d .before .before .loop-test .taken) (d .before .next .ensures) (d .any-alternative .ensures) (c .before .before .r .given .1)))
 
   returns-3 : lts.Need-returns-3 (sequence-choice-calls t) (sequence-choice-at t) reads.Post Inv-loop μ-loop
   returns-3 c =
@@ -74,7 +74,7 @@ sequence-choice-closed t =
     (λ c κs. search needs)
     (returns t)
     (loop-holds t)
-    (later-requires t)
+    (next-requires t)
     (λ c. omega arith)
     (any-alternative-requires t)
     (λ c. search needs)

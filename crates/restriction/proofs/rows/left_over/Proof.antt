@@ -17,18 +17,18 @@ loop-holds : tie.Need-loop-holds Inv-loop μ-loop
 loop-holds c = left-start (c .before .pre)
 
 emptiable-requires : tie.Need-emptiable-requires Inv-loop μ-loop
-emptiable-requires c κs = first-tree (c .before .loop .inv .part .trees) (c .loop-test .taken)
+emptiable-requires c κs = first-tree (c .before .loop .inv .part .trees) (c .loop-test .taken) .row
 
 returns : tie.Need-returns Inv-loop μ-loop
 returns c = sym (left-fails (c .before .before .before .loop .inv) (c .before .before .loop-test .taken) (c .before .emptiable .ensures) (not-true _ (c .if1 .taken)))
 
-later-requires : tie.Need-later-requires Inv-loop μ-loop
-later-requires c κs = first-tree (c .before .before .before .loop .inv .part .trees) (c .before .before .loop-test .taken)
+next-requires : tie.Need-next-requires Inv-loop μ-loop
+next-requires c κs = first-tree (c .before .before .before .loop .inv .part .trees) (c .before .before .loop-test .taken)
 
 loop-again : tie.Need-loop-again Inv-loop μ-loop
 loop-again c =
     let d = c .before .before in
-    left-emptiable (d .before .before .loop .inv) (d .before .loop-test .taken) (d .emptiable .ensures) (c .later .ensures) (not-false _ (c .before .if1 .left))
+    left-emptiable (d .before .before .loop .inv) (d .before .loop-test .taken) (d .emptiable .ensures) (c .next .ensures) (not-false _ (c .before .if1 .left))
 
 returns-2 : tie.Need-returns-2 Inv-loop μ-loop
 returns-2 c = sym (left-end (c .before .loop .inv) (c .loop-test .left))
@@ -42,7 +42,7 @@ left-over-spec =
     loop-holds
     emptiable-requires
     returns
-    later-requires
+    next-requires
     (λ c. omega arith)
     (λ c. omega arith)
     loop-again
