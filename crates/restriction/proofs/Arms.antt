@@ -64,16 +64,16 @@ pub record Sides (leaves tables : List ℕ) (n : ℕ) (once any : Bool) (d b : L
 module _ {leaves tables : List ℕ} {n : ℕ} {once any : Bool} {d b : List ℕ} {dr br : Record} {p q : Occurs} {ds bs : List ℕ} {dk bk m : ℕ}
     (S : Sides leaves tables n once any d b dr br p q ds bs dk bk m) where
   -- what the calls ask: less weight, and rows of trees
-  pub to-base : (weight 3 d bs < m) × (Run 1 d × Run (br .count) bs)
+  pub to-base : (weight 4 d bs < m) × (Run 1 d × Run (br .count) bs)
   to-base = (omega (arith, S .weighs, side-shorter (S .base)), (S .derived .whole, side-items (S .base)))
 
-  pub to-derived : (weight 2 ds b < m) × (Run (dr .count) ds × Run 1 b)
+  pub to-derived : (weight 3 ds b < m) × (Run (dr .count) ds × Run 1 b)
   to-derived = (omega (arith, S .weighs, side-shorter (S .derived)), (side-items (S .derived), S .base .whole))
 
-  pub to-members : (weight 1 ds b < m) × (Run 1 d × (Run (dr .count) ds × Run 1 b))
+  pub to-members : (weight 2 ds b < m) × (Run 1 d × (Run (dr .count) ds × Run 1 b))
   to-members = (omega (arith, to-derived .0), (S .derived .whole, to-derived .1))
 
-  pub to-both : (weight 2 ds bs < m) × (Run (dr .count) ds × Run (br .count) bs)
+  pub to-both : (weight 3 ds bs < m) × (Run (dr .count) ds × Run (br .count) bs)
   to-both = (omega (arith, S .weighs, side-shorter (S .derived), side-shorter (S .base)), (side-items (S .derived), side-items (S .base)))
 
   abbrev theMark : Mark
@@ -203,3 +203,15 @@ module _ {leaves tables : List ℕ} {n : ℕ} {once any : Bool} {d b : List ℕ}
   pub sequence-choice-arm : 5 * dk + bk ≡ 13 → theMark ≡ rangeOk (timesCount p (dr .count)) q orFails 116 andThen eachMember (λ x. alternatives J 117 x bi) di
   unfolding rule
   sequence-choice-arm key = arm 2 3 (omega arith) key ∙ rw (row-count (side-items (S .derived)))
+
+-- two elements, told by their records alone
+pub elements-arm : (leaves tables : List ℕ) (n : ℕ) (once any : Bool) {d b : List ℕ} {dr br : Record} {p q : Occurs} → Run 1 d → Run 1 b → dr ≡ recordAt d → br ≡ recordAt b
+    → p ≡ pairOf (onceHead once (headOf dr)) → q ≡ pairOf (anyHead any (headOf br)) → dr .kind ≡ 0 → br .kind ≡ 0
+    → judge leaves tables n (asOnce once (tree d)) (asAny any (tree b)) ≡ rule (leavesOf leaves) (tablesOf n tables) (judge leaves tables n) (element (dr .leaf) p) (row (dr .count) (itemsPart d)) (element (br .leaf) q) (row (br .count) (itemsPart b))
+elements-arm leaves tables n once any {d} {b} {dr} {br} {p} {q} dw bw de be pe qe dk bk =
+    let s : Sides leaves tables n once any d b dr br p q (itemsPart d) (itemsPart b) 0 0 (weight 0 d b) = record {
+      derived = record { whole = dw; first = de; pair = pe; below = refl; kind = rw dk; small = omega arith };
+      base = record { whole = bw; first = be; pair = qe; below = refl; kind = rw bk; small = omega arith };
+      weighs = refl;
+    } in
+    arm s 0 0 (omega arith) (omega arith)

@@ -48,6 +48,6 @@ module _ {n : ℕ} {t : List ℕ} (w : Run n t) (some : 0 < n) where
     pub part-next : {whole : List ℕ} → length t ≤ length whole → Part (n - 1) s whole
     part-next l = rw e (record { trees = later-run from-suc; within = omega (arith, later-shorter (from-suc .row)) })
 
--- What falls with each call: four times the bytes left, and the steps to the next entry of the rule, three at most.
+-- What falls with each call: five times the bytes left, and the steps to the next entry of the rule, four at most.
 abbrev pub weight : ℕ → (d b : List ℕ) → ℕ
-weight k d b = 4 * (length d + length b) + k
+weight k d b = 5 * (length d + length b) + k

@@ -31,7 +31,34 @@ use verdicts::Reason;
 use verdicts::Verdict;
 
 // The first tree of d against the first of b. With once, an element of d counts with the pair (1,1); with any, a wildcard of b with (0, unbounded).
+// Two elements, the commonest pair, take no further call.
 pub fn restrict(
+    d: &[u8],
+    once: bool,
+    b: &[u8],
+    any: bool,
+    leaves: &[u8],
+    tables: &[u8],
+    n: u8,
+) -> Verdict
+    requires { ⌜ Run 1 (now d) ⌝ }
+    requires { ⌜ Run 1 (now b) ⌝ }
+    ensures { λ r. ⌜ markOf r ≡ judge (now (leaves .entry)) (now (tables .entry)) n (asOnce once (tree (now (d .entry)))) (asAny any (tree (now (b .entry)))) ⌝ }
+{
+    let dr = particle::record_at(d);
+    let br = particle::record_at(b);
+    if dr.kind == particle::ELEMENT {
+        if br.kind == particle::ELEMENT {
+            let p = derived_range(dr, once);
+            let q = base_range(br, any);
+            return verdicts::element_restrict(dr.leaf, p, br.leaf, q, tables, n);
+        }
+    }
+    by_kinds(d, once, b, any, leaves, tables, n)
+}
+
+// The same by the two kinds, as one number: each selects its rule.
+fn by_kinds(
     d: &[u8],
     once: bool,
     b: &[u8],
@@ -53,7 +80,7 @@ pub fn restrict(
     let dn = dr.count as usize;
     let bn = br.count as usize;
     let one = exactly_one();
-    let mark = match 5 * kind_of(dr) + kind_of(br) {
+    match 5 * kind_of(dr) + kind_of(br) {
         0 => verdicts::element_restrict(dr.leaf, p, br.leaf, q, tables, n),
         1 => verdicts::element_wildcard(dr.leaf, p, br.leaf, q, tables, n),
         2 => element_sequence(d, once, p, bs, bn, q, leaves, tables, n),
@@ -76,8 +103,7 @@ pub fn restrict(
         21 => group_wildcard(d, ds, dn, b, q, leaves, tables, n),
         24 => group_all(ds, dn, p, bs, bn, q, true, leaves, tables, n),
         _ => Verdict::Violation(Reason::GroupKind),
-    };
-    mark
+    }
 }
 
 // The ordered walk: a tree of ds is tried on the trees of bs in turn.

@@ -22,53 +22,59 @@ use Rattle.verdicts.proofs.element_wildcard.Reads as element-wildcard-reads
 use Rattle.verdicts.proofs.wildcard_wildcard.Reads as wildcard-wildcard-reads
 use Rattle.restriction.proofs.any_alternative.Reads as any-alternative
 use Rattle.restriction.proofs.any_alternative.Kinds as any-alternative-kinds
-use Rattle.restriction.proofs.+any_alternative+element_choice+element_sequence+group_wildcard+recurse_ordered+restrict+same_kind+sequence_choice.Lts-any_alternative as any-alternative-lts
+use Rattle.restriction.proofs.+any_alternative+by_kinds+element_choice+element_sequence+group_wildcard+recurse_ordered+restrict+same_kind+sequence_choice.Lts-any_alternative as any-alternative-lts
+use Rattle.restriction.proofs.by_kinds.Reads as by-kinds
+use Rattle.restriction.proofs.by_kinds.Kinds as by-kinds-kinds
+use Rattle.restriction.proofs.+any_alternative+by_kinds+element_choice+element_sequence+group_wildcard+recurse_ordered+restrict+same_kind+sequence_choice.Lts-by_kinds as by-kinds-lts
 use Rattle.restriction.proofs.element_choice.Reads as element-choice
 use Rattle.restriction.proofs.element_choice.Kinds as element-choice-kinds
-use Rattle.restriction.proofs.+any_alternative+element_choice+element_sequence+group_wildcard+recurse_ordered+restrict+same_kind+sequence_choice.Lts-element_choice as element-choice-lts
+use Rattle.restriction.proofs.+any_alternative+by_kinds+element_choice+element_sequence+group_wildcard+recurse_ordered+restrict+same_kind+sequence_choice.Lts-element_choice as element-choice-lts
 use Rattle.restriction.proofs.element_sequence.Reads as element-sequence
 use Rattle.restriction.proofs.element_sequence.Kinds as element-sequence-kinds
-use Rattle.restriction.proofs.+any_alternative+element_choice+element_sequence+group_wildcard+recurse_ordered+restrict+same_kind+sequence_choice.Lts-element_sequence as element-sequence-lts
+use Rattle.restriction.proofs.+any_alternative+by_kinds+element_choice+element_sequence+group_wildcard+recurse_ordered+restrict+same_kind+sequence_choice.Lts-element_sequence as element-sequence-lts
 use Rattle.restriction.proofs.group_wildcard.Reads as group-wildcard
 use Rattle.restriction.proofs.group_wildcard.Kinds as group-wildcard-kinds
-use Rattle.restriction.proofs.+any_alternative+element_choice+element_sequence+group_wildcard+recurse_ordered+restrict+same_kind+sequence_choice.Lts-group_wildcard as group-wildcard-lts
+use Rattle.restriction.proofs.+any_alternative+by_kinds+element_choice+element_sequence+group_wildcard+recurse_ordered+restrict+same_kind+sequence_choice.Lts-group_wildcard as group-wildcard-lts
 use Rattle.restriction.proofs.recurse_ordered.Reads as recurse-ordered
 use Rattle.restriction.proofs.recurse_ordered.Kinds as recurse-ordered-kinds
-use Rattle.restriction.proofs.+any_alternative+element_choice+element_sequence+group_wildcard+recurse_ordered+restrict+same_kind+sequence_choice.Lts-recurse_ordered as recurse-ordered-lts
+use Rattle.restriction.proofs.+any_alternative+by_kinds+element_choice+element_sequence+group_wildcard+recurse_ordered+restrict+same_kind+sequence_choice.Lts-recurse_ordered as recurse-ordered-lts
 use Rattle.restriction.proofs.restrict.Reads as restrict
 use Rattle.restriction.proofs.restrict.Kinds as restrict-kinds
-use Rattle.restriction.proofs.+any_alternative+element_choice+element_sequence+group_wildcard+recurse_ordered+restrict+same_kind+sequence_choice.Lts-restrict as restrict-lts
+use Rattle.restriction.proofs.+any_alternative+by_kinds+element_choice+element_sequence+group_wildcard+recurse_ordered+restrict+same_kind+sequence_choice.Lts-restrict as restrict-lts
 use Rattle.restriction.proofs.same_kind.Reads as same-kind
 use Rattle.restriction.proofs.same_kind.Kinds as same-kind-kinds
-use Rattle.restriction.proofs.+any_alternative+element_choice+element_sequence+group_wildcard+recurse_ordered+restrict+same_kind+sequence_choice.Lts-same_kind as same-kind-lts
+use Rattle.restriction.proofs.+any_alternative+by_kinds+element_choice+element_sequence+group_wildcard+recurse_ordered+restrict+same_kind+sequence_choice.Lts-same_kind as same-kind-lts
 use Rattle.restriction.proofs.sequence_choice.Reads as sequence-choice
 use Rattle.restriction.proofs.sequence_choice.Kinds as sequence-choice-kinds
-use Rattle.restriction.proofs.+any_alternative+element_choice+element_sequence+group_wildcard+recurse_ordered+restrict+same_kind+sequence_choice.Lts-sequence_choice as sequence-choice-lts
+use Rattle.restriction.proofs.+any_alternative+by_kinds+element_choice+element_sequence+group_wildcard+recurse_ordered+restrict+same_kind+sequence_choice.Lts-sequence_choice as sequence-choice-lts
 use Rattle.restriction.proofs.Parts.{weight}
 
 abbrev pub μ-any-alternative : Measures 4 any-alternative-kinds.ps ℕ
-μ-any-alternative κs a = weight 1 (a .0 .now) (a .1 .1 .0 .now)
+μ-any-alternative κs a = weight 2 (a .0 .now) (a .1 .1 .0 .now)
+
+abbrev pub μ-by-kinds : Measures 4 by-kinds-kinds.ps ℕ
+μ-by-kinds κs a = weight 0 (a .0 .now) (a .1 .1 .0 .now)
 
 abbrev pub μ-element-choice : Measures 4 element-choice-kinds.ps ℕ
-μ-element-choice κs a = weight 3 (a .0 .now) (a .1 .1 .1 .0 .now)
+μ-element-choice κs a = weight 4 (a .0 .now) (a .1 .1 .1 .0 .now)
 
 abbrev pub μ-element-sequence : Measures 4 element-sequence-kinds.ps ℕ
-μ-element-sequence κs a = weight 3 (a .0 .now) (a .1 .1 .1 .0 .now)
+μ-element-sequence κs a = weight 4 (a .0 .now) (a .1 .1 .1 .0 .now)
 
 abbrev pub μ-group-wildcard : Measures 5 group-wildcard-kinds.ps ℕ
-μ-group-wildcard κs a = weight 1 (a .1 .0 .now) (a .1 .1 .1 .0 .now)
+μ-group-wildcard κs a = weight 2 (a .1 .0 .now) (a .1 .1 .1 .0 .now)
 
 abbrev pub μ-recurse-ordered : Measures 4 recurse-ordered-kinds.ps ℕ
-μ-recurse-ordered κs a = weight 1 (a .0 .now) (a .1 .1 .1 .0 .now)
+μ-recurse-ordered κs a = weight 2 (a .0 .now) (a .1 .1 .1 .0 .now)
 
 abbrev pub μ-restrict : Measures 4 restrict-kinds.ps ℕ
-μ-restrict κs a = weight 0 (a .0 .now) (a .1 .1 .0 .now)
+μ-restrict κs a = weight 1 (a .0 .now) (a .1 .1 .0 .now)
 
 abbrev pub μ-same-kind : Measures 4 same-kind-kinds.ps ℕ
-μ-same-kind κs a = weight 2 (a .0 .now) (a .1 .1 .1 .1 .0 .now)
+μ-same-kind κs a = weight 3 (a .0 .now) (a .1 .1 .1 .1 .0 .now)
 
 abbrev pub μ-sequence-choice : Measures 4 sequence-choice-kinds.ps ℕ
-μ-sequence-choice κs a = weight 2 (a .0 .now) (a .1 .1 .1 .0 .now)
+μ-sequence-choice κs a = weight 3 (a .0 .now) (a .1 .1 .1 .0 .now)
 
 module _ (t : ℕ) where
   abbrev pub any-alternative-at : In 4 any-alternative-kinds.ps
@@ -76,6 +82,12 @@ module _ (t : ℕ) where
 
   abbrev pub any-alternative-below : In 4 any-alternative-kinds.ps
   any-alternative-below = and 4 any-alternative-kinds.ps (falls 4 any-alternative-kinds.ps _<_ μ-any-alternative t) any-alternative.Pre
+
+  abbrev pub by-kinds-at : In 4 by-kinds-kinds.ps
+  by-kinds-at = and 4 by-kinds-kinds.ps (is 4 by-kinds-kinds.ps μ-by-kinds t) by-kinds.Pre
+
+  abbrev pub by-kinds-below : In 4 by-kinds-kinds.ps
+  by-kinds-below = and 4 by-kinds-kinds.ps (falls 4 by-kinds-kinds.ps _<_ μ-by-kinds t) by-kinds.Pre
 
   abbrev pub element-choice-at : In 4 element-choice-kinds.ps
   element-choice-at = and 4 element-choice-kinds.ps (is 4 element-choice-kinds.ps μ-element-choice t) element-choice.Pre
@@ -122,6 +134,9 @@ module _ (t : ℕ) where
   abbrev pub any-alternative-calls : any-alternative-lts.Claims
   any-alternative-calls = (next-reads.Asked, next-reads.Learnt, restrict-below, restrict.Post, definite-reads.Asked, definite-reads.Learnt)
 
+  abbrev pub by-kinds-calls : by-kinds-lts.Claims
+  by-kinds-calls = (record-at-reads.Asked, record-at-reads.Learnt, derived-range-reads.Asked, derived-range-reads.Learnt, base-range-reads.Asked, base-range-reads.Learnt, items-reads.Asked, items-reads.Learnt, exactly-one-reads.Asked, exactly-one-reads.Learnt, kind-of-reads.Asked, kind-of-reads.Learnt, element-restrict-reads.Asked, element-restrict-reads.Learnt, element-wildcard-reads.Asked, element-wildcard-reads.Learnt, element-sequence-below, element-sequence.Post, element-choice-below, element-choice.Post, wildcard-wildcard-reads.Asked, wildcard-wildcard-reads.Learnt, same-kind-below, same-kind.Post, group-wildcard-below, group-wildcard.Post, sequence-choice-below, sequence-choice.Post, group-all-reads.Asked, group-all-reads.Learnt)
+
   abbrev pub element-choice-calls : element-choice-lts.Claims
   element-choice-calls = (same-kind-below, same-kind.Post, combine-readings-reads.Asked, combine-readings-reads.Learnt, any-alternative-below, any-alternative.Post)
 
@@ -135,7 +150,7 @@ module _ (t : ℕ) where
   recurse-ordered-calls = (next-reads.Asked, next-reads.Learnt, restrict-below, restrict.Post, emptiable-reads.Asked, emptiable-reads.Learnt, definite-reads.Asked, definite-reads.Learnt, left-over-reads.Asked, left-over-reads.Learnt)
 
   abbrev pub restrict-calls : restrict-lts.Claims
-  restrict-calls = (record-at-reads.Asked, record-at-reads.Learnt, derived-range-reads.Asked, derived-range-reads.Learnt, base-range-reads.Asked, base-range-reads.Learnt, items-reads.Asked, items-reads.Learnt, exactly-one-reads.Asked, exactly-one-reads.Learnt, kind-of-reads.Asked, kind-of-reads.Learnt, element-restrict-reads.Asked, element-restrict-reads.Learnt, element-wildcard-reads.Asked, element-wildcard-reads.Learnt, element-sequence-below, element-sequence.Post, element-choice-below, element-choice.Post, wildcard-wildcard-reads.Asked, wildcard-wildcard-reads.Learnt, same-kind-below, same-kind.Post, group-wildcard-below, group-wildcard.Post, sequence-choice-below, sequence-choice.Post, group-all-reads.Asked, group-all-reads.Learnt)
+  restrict-calls = (record-at-reads.Asked, record-at-reads.Learnt, derived-range-reads.Asked, derived-range-reads.Learnt, base-range-reads.Asked, base-range-reads.Learnt, element-restrict-reads.Asked, element-restrict-reads.Learnt, by-kinds-below, by-kinds.Post)
 
   abbrev pub same-kind-calls : same-kind-lts.Claims
   same-kind-calls = (range-ok-reads.Asked, range-ok-reads.Learnt, recurse-ordered-below, recurse-ordered.Post)

@@ -1,4 +1,4 @@
--- `restrict` meets its contract: an arm of the match answers by a clause of the rule, at the two kinds that its key is. Assumes nothing.
+-- `by_kinds` meets its contract: an arm of the match answers by a clause of the rule, at the two kinds that its key is. Assumes nothing.
 use Prim.Native.Nat.{ℕ}
 use borrow.Author.Needs.{needs}
 use native.Mathlib.Omega.{arith}
@@ -6,13 +6,13 @@ use mathlib.Core.Path.{sym, _∙_}
 use Rattle.particle.proofs.Laws.{some-bytes}
 use Rattle.rules.specs.Rule.{rule}
 use Rattle.restriction.proofs.Arms.{Sides, to-base, to-derived, to-members, to-both, arm, other-arm, element-sequence-arm, element-choice-arm, sequence-element-arm, choice-element-arm, sequences-arm, choices-arm, group-wildcard-arm, sequence-choice-arm}
-use Rattle.restriction.proofs.restrict.Reads as reads
-use Rattle.restriction.proofs.+any_alternative+element_choice+element_sequence+group_wildcard+recurse_ordered+restrict+same_kind+sequence_choice.Lts-restrict as lts
-use Rattle.restriction.proofs.+any_alternative+element_choice+element_sequence+group_wildcard+recurse_ordered+restrict+same_kind+sequence_choice.Proof.Base.{restrict-at, restrict-calls}
+use Rattle.restriction.proofs.by_kinds.Reads as reads
+use Rattle.restriction.proofs.+any_alternative+by_kinds+element_choice+element_sequence+group_wildcard+recurse_ordered+restrict+same_kind+sequence_choice.Lts-by_kinds as lts
+use Rattle.restriction.proofs.+any_alternative+by_kinds+element_choice+element_sequence+group_wildcard+recurse_ordered+restrict+same_kind+sequence_choice.Proof.Base.{by-kinds-at, by-kinds-calls}
 
 module _ (t : ℕ) where
   -- what has been read of both trees, above the match
-  sides : (c : lts.After-kind-of2 (restrict-calls t) (restrict-at t) reads.Post) →
+  sides : (c : lts.After-kind-of2 (by-kinds-calls t) (by-kinds-at t) reads.Post) →
       let i = c .before .before .before .before .before in
       let r = i .before .before .before .before in
       let a = r .before .before .before .before .before .before .args in
@@ -29,10 +29,10 @@ module _ (t : ℕ) where
         weighs = w .0;
       }
 
-pub restrict-closed : {M : Type 1} (t : ℕ) → lts.Closed (restrict-calls t) (restrict-at t) reads.Post M
+pub by-kinds-closed : {M : Type 1} (t : ℕ) → lts.Closed (by-kinds-calls t) (by-kinds-at t) reads.Post M
 unfolding rule
-restrict-closed t =
-    lts.spec (restrict-calls t) (restrict-at t) reads.Post
+by-kinds-closed t =
+    lts.spec (by-kinds-calls t) (by-kinds-at t) reads.Post
     (λ c κs. some-bytes (c .before .before .before .before .pre .1 .0 .row))
     (λ c κs. some-bytes (c .before .before .before .before .before .pre .1 .1 .row))
     (λ c κs. search needs)

@@ -10,8 +10,8 @@ use Rattle.restriction.specs.Views.{asAny, judge}
 use Rattle.restriction.proofs.Parts.{first-tree}
 use Rattle.restriction.proofs.Members.{Members, members-start, members-end, member-passes, member-undecided, member-fails}
 use Rattle.restriction.proofs.group_wildcard.Reads as reads
-use Rattle.restriction.proofs.+any_alternative+element_choice+element_sequence+group_wildcard+recurse_ordered+restrict+same_kind+sequence_choice.Lts-group_wildcard as lts
-use Rattle.restriction.proofs.+any_alternative+element_choice+element_sequence+group_wildcard+recurse_ordered+restrict+same_kind+sequence_choice.Proof.Base.{group-wildcard-at, group-wildcard-calls}
+use Rattle.restriction.proofs.+any_alternative+by_kinds+element_choice+element_sequence+group_wildcard+recurse_ordered+restrict+same_kind+sequence_choice.Lts-group_wildcard as lts
+use Rattle.restriction.proofs.+any_alternative+by_kinds+element_choice+element_sequence+group_wildcard+recurse_ordered+restrict+same_kind+sequence_choice.Proof.Base.{group-wildcard-at, group-wildcard-calls}
 
 abbrev Inv-loop : lts.InvT-loop
 Inv-loop group ds dn b leaves tables n seen₀ members₀ i₀ seen members i = Members (λ x. judge leaves tables n x (asAny true (tree b))) dn ds seen members i

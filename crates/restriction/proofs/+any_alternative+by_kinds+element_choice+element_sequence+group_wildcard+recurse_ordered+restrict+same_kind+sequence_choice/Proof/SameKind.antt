@@ -3,8 +3,8 @@ use Prim.Native.Nat.{ℕ}
 use borrow.Author.Needs.{needs}
 use native.Mathlib.Omega.{arith}
 use Rattle.restriction.proofs.same_kind.Reads as reads
-use Rattle.restriction.proofs.+any_alternative+element_choice+element_sequence+group_wildcard+recurse_ordered+restrict+same_kind+sequence_choice.Lts-same_kind as lts
-use Rattle.restriction.proofs.+any_alternative+element_choice+element_sequence+group_wildcard+recurse_ordered+restrict+same_kind+sequence_choice.Proof.Base.{same-kind-at, same-kind-calls}
+use Rattle.restriction.proofs.+any_alternative+by_kinds+element_choice+element_sequence+group_wildcard+recurse_ordered+restrict+same_kind+sequence_choice.Lts-same_kind as lts
+use Rattle.restriction.proofs.+any_alternative+by_kinds+element_choice+element_sequence+group_wildcard+recurse_ordered+restrict+same_kind+sequence_choice.Proof.Base.{same-kind-at, same-kind-calls}
 
 module _ (t : ℕ) where
   recurse-ordered-requires : lts.Need-recurse-ordered-requires (same-kind-calls t) (same-kind-at t) reads.Post
