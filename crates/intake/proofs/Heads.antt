@@ -195,3 +195,12 @@ module _ (known : Known) (r : Record) (d : ℕ) (a : Bool) (e : faultOf known r 
       (ap (λ (x : Record). faultOf known x d a) faithful ∙ e)
       (omega (arith, ap (λ (x : Record). x .min) faithful))
       (omega (arith, ap (λ (x : Record). x .max) faithful))
+
+-- an all-group's items have no items
+pub not-in-all : (known : Known) (r : Record) (d : ℕ) (a : Bool) → faultOf known r d a ≡ Accepted → (r .count ≡ 0 → ⊥) → a ≡ false
+not-in-all known r d false e n = refl
+not-in-all known r d true e n =
+    let c = clean known r d true e in
+    let kind = eqb-true (r .kind) 0 (split (not (eqb (r .kind) 4) || (eqb (r .unbounded) 0 && eqb (r .max) 1)) (eqb (r .kind) 0) (c .2) .1) in
+    let leaf = rw kind at (parts known r (c .0) .1) in
+    absurd (n (eqb-true (r .count) 0 (split (known 0 (r .leaf)) (eqb (r .count) 0) leaf .1)))

@@ -1,7 +1,7 @@
 pub mod Steps
-pub mod Reading
 pub mod Checking
 pub mod Heads
+pub mod Scanning
 pub mod FitsAccepted
 pub mod AcceptedFits
 pub mod FitsBytes

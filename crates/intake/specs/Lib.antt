@@ -1,5 +1,4 @@
 pub mod Faults
 pub mod Scan
 pub mod Number
-pub mod Reads
 pub mod Accepted

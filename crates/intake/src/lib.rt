@@ -1,12 +1,12 @@
 // The check of a tree: its first refusal, record by record.
 ghost use mathlib.Core.Path.{_≡_};
-ghost use Prim.Native.Nat.{_≤_, _<_};
-ghost use lib.ListN.{length};
+ghost use mathlib.Core.Bool.{false};
+ghost use mathlib.Core.List.{[], _∷_};
+ghost use Prim.Native.Nat.{_<_};
 ghost use Rattle.particle.specs.Tree.{records};
 ghost use Rattle.intake.specs.Faults.{leafOk, boundOk, fieldsOk, pairOk, allOk, faultOf};
-ghost use Rattle.intake.specs.Scan.{listed, alone, refusalIn};
+ghost use Rattle.intake.specs.Scan.{level, scan, listed, alone, refusalIn};
 ghost use Rattle.intake.specs.Number.{faultPlace, refusalNumber};
-ghost use Rattle.intake.specs.Reads.{ReadsItem, ReadsItems};
 use particle::Record;
 
 // What is wrong with a tree, in the order in which a record is checked.
@@ -32,12 +32,6 @@ pub enum Refusal {
 pub enum Checked {
     Accepted,
     Refused(Fault),
-}
-
-// What reading some items finds: how many records they are, or a fault.
-enum Scanned {
-    Fine(usize),
-    Faulty(Fault),
 }
 
 // In a list of leaf kinds: a leaf that may be an element or a wildcard.
@@ -76,13 +70,7 @@ fn leaf_ok(r: Record, kinds: &[u8]) -> bool
 fn bound_ok(r: Record) -> bool
     ensures { λ b. ⌜ b ≡ boundOk r ⌝ }
 {
-    if r.unbounded == 0 {
-        return true;
-    }
-    if r.unbounded == 1 {
-        return r.max == 0;
-    }
-    false
+    (r.unbounded == 0) | ((r.unbounded == 1) & (r.max == 0))
 }
 
 fn fields_ok(r: Record, kinds: &[u8]) -> bool
@@ -100,10 +88,7 @@ fn fields_ok(r: Record, kinds: &[u8]) -> bool
 fn pair_ok(r: Record) -> bool
     ensures { λ b. ⌜ b ≡ pairOk r ⌝ }
 {
-    if r.unbounded == 1 {
-        return true;
-    }
-    r.min <= r.max
+    (r.unbounded == 1) | (r.min <= r.max)
 }
 
 fn all_ok(r: Record, in_all: bool) -> bool
@@ -145,47 +130,45 @@ fn fault_of(r: Record, kinds: &[u8], depth: usize, in_all: bool) -> Checked
     Checked::Refused(Fault::Depth)
 }
 
-// Reads one item, which t starts with, and everything below it.
-fn read_item(t: &[u8], kinds: &[u8], depth: usize, in_all: bool) -> Scanned
-    requires { ⌜ 1 ≤ length (records (now t)) ⌝ }
-    ensures { λ r. ⌜ ReadsItem (listed (now (kinds .entry))) (records (now (t .entry))) depth in_all r ⌝ }
+// The first fault of the records of t, which may also be too few or too many for their item counts. An open group is
+// kept by how many items it still awaits: `left` for the innermost one, `outer` for those above it, outermost first.
+// An item of an all-group has no items, so only the innermost group can be an all-group.
+fn scan(t: &[u8], kinds: &[u8]) -> Checked
+    ensures { λ r. ⌜ r ≡ scan (listed (now (kinds .entry))) (records (now (t .entry))) (level 1 false ∷ []) ⌝ }
 {
-    let r = particle::record_at(t);
-    match fault_of(r, kinds, depth, in_all) {
-        Checked::Refused(f) => Scanned::Faulty(f),
-        Checked::Accepted => {
-            let n = r.count as usize;
-            match read_items(
-                particle::skip(t, 1),
-                kinds,
-                n,
-                depth + 1,
-                r.kind == particle::ALL,
-            ) {
-                Scanned::Faulty(f) => Scanned::Faulty(f),
-                Scanned::Fine(m) => Scanned::Fine(m + 1),
-            }
+    let mut left: u8 = 1;
+    let mut in_all = false;
+    let mut outer = [0u8; MAX_DEPTH];
+    let mut above: usize = 0;
+    let mut rest = t;
+    while particle::RECORD_SIZE <= rest.len() {
+        let r = particle::record_at(rest);
+        let next = particle::skip(rest, 1);
+        rest = next;
+        if left == 0 {
+            return Checked::Refused(Fault::Counts);
+        }
+        if let Checked::Refused(f) = fault_of(r, kinds, above + 1, in_all) {
+            return Checked::Refused(f);
+        }
+        left -= 1;
+        if r.count != 0 {
+            outer[above] = left;
+            above += 1;
+            left = r.count;
+            in_all = r.kind == particle::ALL;
+            continue;
+        }
+        while left == 0 && 0 < above {
+            above -= 1;
+            left = outer[above];
+            in_all = false;
         }
     }
-}
-
-// Reads n items from the start of t.
-fn read_items(t: &[u8], kinds: &[u8], n: usize, depth: usize, in_all: bool) -> Scanned
-    ensures { λ r. ⌜ ReadsItems (listed (now (kinds .entry))) (records (now (t .entry))) n depth in_all r ⌝ }
-{
-    if n == 0 {
-        return Scanned::Fine(0);
+    if left == 0 {
+        return Checked::Accepted;
     }
-    if particle::record_count(t) == 0 {
-        return Scanned::Faulty(Fault::Counts);
-    }
-    match read_item(t, kinds, depth, in_all) {
-        Scanned::Faulty(f) => Scanned::Faulty(f),
-        Scanned::Fine(m) => match read_items(particle::skip(t, m), kinds, n - 1, depth, in_all) {
-            Scanned::Faulty(f) => Scanned::Faulty(f),
-            Scanned::Fine(k) => Scanned::Fine(m + k),
-        },
-    }
+    Checked::Refused(Fault::Counts)
 }
 
 // The first refusal of the tree t, whose leaves are of these kinds.
@@ -202,16 +185,7 @@ pub fn check_tree(t: &[u8], kinds: &[u8]) -> Checked
     if len % particle::RECORD_SIZE != 0 {
         return Checked::Refused(Fault::Counts);
     }
-    match read_items(t, kinds, 1, 1, false) {
-        Scanned::Faulty(f) => Checked::Refused(f),
-        Scanned::Fine(m) => {
-            if m == particle::record_count(t) {
-                Checked::Accepted
-            } else {
-                Checked::Refused(Fault::Counts)
-            }
-        }
-    }
+    scan(t, kinds)
 }
 
 // The first refusal of a tree alone, which has no leaf list: any leaf number up to 63, as an element or a wildcard.

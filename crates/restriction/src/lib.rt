@@ -31,7 +31,7 @@ use verdicts::Reason;
 use verdicts::Verdict;
 
 // The first tree of d against the first of b. With once, an element of d counts with the pair (1,1); with any, a wildcard of b with (0, unbounded).
-// Two elements, the commonest pair, take no further call.
+// Most pairs are two elements that the first table keeps apart: they take no further call.
 pub fn restrict(
     d: &[u8],
     once: bool,
@@ -49,9 +49,10 @@ pub fn restrict(
     let br = particle::record_at(b);
     if dr.kind == particle::ELEMENT {
         if br.kind == particle::ELEMENT {
-            let p = derived_range(dr, once);
-            let q = base_range(br, any);
-            return verdicts::element_restrict(dr.leaf, p, br.leaf, q, tables, n);
+            let v = verdicts::first(dr.leaf, br.leaf, tables, n);
+            let Verdict::Ok = v else {
+                return v;
+            };
         }
     }
     by_kinds(d, once, b, any, leaves, tables, n)
@@ -227,7 +228,7 @@ fn same_kind(
     Verdict::Violation(Reason::SequenceRange)
 }
 
-// Element against sequence: two readings.
+// Element against sequence: two readings. An element that counts once is walked in the same way in both.
 fn element_sequence(
     d: &[u8],
     once: bool,
@@ -250,11 +251,17 @@ fn element_sequence(
     if 1 < q.min {
         return verdicts::combine_readings(wrapped, Verdict::Violation(Reason::SequenceRequired));
     }
+    if once {
+        if particle::range_ok(p, q) {
+            return wrapped;
+        }
+    }
     let direct = recurse_ordered(d, 1, once, bs, bn, false, leaves, tables, n);
     verdicts::combine_readings(wrapped, direct)
 }
 
-// Element against choice: two readings.
+// Element against choice: two readings. For an element that counts once both ask the same of each alternative, and one pass over
+// them answers for both.
 fn element_choice(
     d: &[u8],
     once: bool,
@@ -270,6 +277,14 @@ fn element_choice(
     requires { ⌜ Run bn (now bs) ⌝ }
     ensures { λ r. ⌜ markOf r ≡ combineReadings (rangeOk p q orFails 106 andThen recurseOrdered (judge (now (leaves .entry)) (now (tables .entry)) n) true (eachOnce true (row 1 (now (d .entry)))) (row bn (now (bs .entry)))) (leb (q .min) 1 orFails 112 andThen alternatives (judge (now (leaves .entry)) (now (tables .entry)) n) 111 (asOnce once (tree (now (d .entry)))) (row bn (now (bs .entry)))) ⌝ }
 {
+    if once {
+        if q.min <= 1 {
+            if particle::range_ok(p, q) {
+                return any_alternative(d, once, bs, bn, Reason::NotAllowed, leaves, tables, n);
+            }
+            return any_alternative(d, once, bs, bn, Reason::ChoiceRange, leaves, tables, n);
+        }
+    }
     let wrapped = same_kind(d, 1, true, p, bs, bn, q, true, leaves, tables, n);
     if let Verdict::Ok = wrapped {
         return Verdict::Ok;
@@ -308,7 +323,7 @@ fn group_wildcard(
         let next = particle::next(d);
         members = next;
         left -= 1;
-        match restrict(d, false, b, true, leaves, tables, n) {
+        match by_kinds(d, false, b, true, leaves, tables, n) {
             Verdict::Ok => {}
             Verdict::Unknown => {
                 seen = true;

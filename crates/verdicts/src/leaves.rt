@@ -44,7 +44,7 @@ fn product(a: u8, b: u8) -> usize
 }
 
 // The first table's verdict on the derived leaf l and the base leaf m, of n leaves.
-fn first(l: u8, m: u8, tables: &[u8], n: u8) -> Verdict
+pub fn first(l: u8, m: u8, tables: &[u8], n: u8) -> Verdict
     ensures { λ r. ⌜ markOf r ≡ tablesOf n (now (tables .entry)) .first l m ⌝ }
 {
     verdict_at(tables, product(l, n) + (m as usize))

@@ -7,6 +7,7 @@ ghost use Rattle.rules.specs.Combine.{combineReadings};
 ghost use Rattle.verdicts.specs.Reasons.{reasonNumber, markOf, definiteOf};
 pub use leaves::element_restrict;
 pub use leaves::element_wildcard;
+pub use leaves::first;
 pub use leaves::wildcard_wildcard;
 pub use unordered::recurse_unordered;
 

@@ -19,6 +19,7 @@ use Rattle.verdicts.proofs.combine_readings.Reads as combine-readings-reads
 use Rattle.verdicts.proofs.definite.Reads as definite-reads
 use Rattle.verdicts.proofs.element_restrict.Reads as element-restrict-reads
 use Rattle.verdicts.proofs.element_wildcard.Reads as element-wildcard-reads
+use Rattle.verdicts.proofs.first.Reads as first-reads
 use Rattle.verdicts.proofs.wildcard_wildcard.Reads as wildcard-wildcard-reads
 use Rattle.restriction.proofs.any_alternative.Reads as any-alternative
 use Rattle.restriction.proofs.any_alternative.Kinds as any-alternative-kinds
@@ -138,19 +139,19 @@ module _ (t : ℕ) where
   by-kinds-calls = (record-at-reads.Asked, record-at-reads.Learnt, derived-range-reads.Asked, derived-range-reads.Learnt, base-range-reads.Asked, base-range-reads.Learnt, items-reads.Asked, items-reads.Learnt, exactly-one-reads.Asked, exactly-one-reads.Learnt, kind-of-reads.Asked, kind-of-reads.Learnt, element-restrict-reads.Asked, element-restrict-reads.Learnt, element-wildcard-reads.Asked, element-wildcard-reads.Learnt, element-sequence-below, element-sequence.Post, element-choice-below, element-choice.Post, wildcard-wildcard-reads.Asked, wildcard-wildcard-reads.Learnt, same-kind-below, same-kind.Post, group-wildcard-below, group-wildcard.Post, sequence-choice-below, sequence-choice.Post, group-all-reads.Asked, group-all-reads.Learnt)
 
   abbrev pub element-choice-calls : element-choice-lts.Claims
-  element-choice-calls = (same-kind-below, same-kind.Post, combine-readings-reads.Asked, combine-readings-reads.Learnt, any-alternative-below, any-alternative.Post)
+  element-choice-calls = (range-ok-reads.Asked, range-ok-reads.Learnt, any-alternative-below, any-alternative.Post, same-kind-below, same-kind.Post, combine-readings-reads.Asked, combine-readings-reads.Learnt)
 
   abbrev pub element-sequence-calls : element-sequence-lts.Claims
-  element-sequence-calls = (same-kind-below, same-kind.Post, combine-readings-reads.Asked, combine-readings-reads.Learnt, recurse-ordered-below, recurse-ordered.Post)
+  element-sequence-calls = (same-kind-below, same-kind.Post, combine-readings-reads.Asked, combine-readings-reads.Learnt, range-ok-reads.Asked, range-ok-reads.Learnt, recurse-ordered-below, recurse-ordered.Post)
 
   abbrev pub group-wildcard-calls : group-wildcard-lts.Claims
-  group-wildcard-calls = (effective-total-range-reads.Asked, effective-total-range-reads.Learnt, range-ok-reads.Asked, range-ok-reads.Learnt, next-reads.Asked, next-reads.Learnt, restrict-below, restrict.Post, definite-reads.Asked, definite-reads.Learnt)
+  group-wildcard-calls = (effective-total-range-reads.Asked, effective-total-range-reads.Learnt, range-ok-reads.Asked, range-ok-reads.Learnt, next-reads.Asked, next-reads.Learnt, by-kinds-below, by-kinds.Post, definite-reads.Asked, definite-reads.Learnt)
 
   abbrev pub recurse-ordered-calls : recurse-ordered-lts.Claims
   recurse-ordered-calls = (next-reads.Asked, next-reads.Learnt, restrict-below, restrict.Post, emptiable-reads.Asked, emptiable-reads.Learnt, definite-reads.Asked, definite-reads.Learnt, left-over-reads.Asked, left-over-reads.Learnt)
 
   abbrev pub restrict-calls : restrict-lts.Claims
-  restrict-calls = (record-at-reads.Asked, record-at-reads.Learnt, derived-range-reads.Asked, derived-range-reads.Learnt, base-range-reads.Asked, base-range-reads.Learnt, element-restrict-reads.Asked, element-restrict-reads.Learnt, by-kinds-below, by-kinds.Post)
+  restrict-calls = (record-at-reads.Asked, record-at-reads.Learnt, first-reads.Asked, first-reads.Learnt, by-kinds-below, by-kinds.Post)
 
   abbrev pub same-kind-calls : same-kind-lts.Claims
   same-kind-calls = (range-ok-reads.Asked, range-ok-reads.Learnt, recurse-ordered-below, recurse-ordered.Post)

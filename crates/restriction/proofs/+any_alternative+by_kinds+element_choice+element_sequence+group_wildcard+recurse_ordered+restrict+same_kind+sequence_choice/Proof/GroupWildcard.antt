@@ -32,27 +32,27 @@ module _ (t : ℕ) where
   next-requires : lts.Need-next-requires (group-wildcard-calls t) (group-wildcard-at t) reads.Post Inv-loop μ-loop
   next-requires c κs = first-tree (c .before .loop .inv .part .trees) (c .loop-test .taken)
 
-  restrict-requires : lts.Need-restrict-requires (group-wildcard-calls t) (group-wildcard-at t) reads.Post Inv-loop μ-loop
-  restrict-requires c κs =
+  by-kinds-requires : lts.Need-by-kinds-requires (group-wildcard-calls t) (group-wildcard-at t) reads.Post Inv-loop μ-loop
+  by-kinds-requires c κs =
       let e = c .before .before .before .before .before .before .before .before .before .before .before in
       (omega arith, (first-tree (c .before .before .loop .inv .part .trees) (c .before .loop-test .taken), e .pre .1 .1 .1))
 
   loop-again : lts.Need-loop-again (group-wildcard-calls t) (group-wildcard-at t) reads.Post Inv-loop μ-loop
   loop-again c =
       let d = c .before .before in
-      member-passes (d .before .before .before .loop .inv) (d .before .before .loop-test .taken) (d .before .next .ensures) (d .restrict .ensures) (c .enum-told .given .1)
+      member-passes (d .before .before .before .loop .inv) (d .before .before .loop-test .taken) (d .before .next .ensures) (d .by-kinds .ensures) (c .enum-told .given .1)
 
   loop-again-2 : lts.Need-loop-again-2 (group-wildcard-calls t) (group-wildcard-at t) reads.Post Inv-loop μ-loop
   loop-again-2 c =
       let d = c .before .before in
-      member-undecided (d .before .before .before .loop .inv) (d .before .before .loop-test .taken) (d .before .next .ensures) (d .restrict .ensures) (c .enum-told2 .given .1)
+      member-undecided (d .before .before .before .loop .inv) (d .before .before .loop-test .taken) (d .before .next .ensures) (d .by-kinds .ensures) (c .enum-told2 .given .1)
 
   returns-2 : lts.Need-returns-2 (group-wildcard-calls t) (group-wildcard-at t) reads.Post Inv-loop μ-loop
   returns-2 c =
       let d = c .before .before .before .before in
       let f = d .before .before .before .before in
       rw (← f .before .before .effective-total-range .ensures, ← f .before .range-ok .ensures, not-false (f .before .range-ok .result) (f .if1 .left))
-      (c .definite .ensures ∙ sym (member-fails (d .before .before .before .loop .inv) (d .before .before .loop-test .taken) (d .before .next .ensures) (d .restrict .ensures) (c .before .before .r .given .1)))
+      (c .definite .ensures ∙ sym (member-fails (d .before .before .before .loop .inv) (d .before .before .loop-test .taken) (d .before .next .ensures) (d .by-kinds .ensures) (c .before .before .r .given .1)))
 
   returns-3 : lts.Need-returns-3 (group-wildcard-calls t) (group-wildcard-at t) reads.Post Inv-loop μ-loop
   returns-3 c =
@@ -71,7 +71,7 @@ group-wildcard-closed t =
     (loop-holds t)
     (next-requires t)
     (λ c. omega arith)
-    (restrict-requires t)
+    (by-kinds-requires t)
     (λ c. search needs)
     (λ c. omega arith)
     (loop-again t)

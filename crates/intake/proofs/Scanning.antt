@@ -1,0 +1,106 @@
+-- What the loops of `scan` keep: the levels that the locals stand for, and that the records left decide the answer. Assumes nothing.
+use mathlib.Core.Path.{_≡_, refl, ap, sym, _∙_}
+use mathlib.Core.Bool.{Bool, false}
+use mathlib.Core.List.{List, [], _∷_}
+use Prim.Native.Nat.{ℕ, zero, suc, _+_, _-_, _≤_, _<_}
+use native.Mathlib.Numerals.{add-one}
+use native.Mathlib.Omega.{arith}
+use lib.Dec.{eqb}
+use lib.ListN.{length, getD, set, length-set}
+use lib.Seq.{getD-set-same, getD-set-other}
+use Rattle.particle.specs.declared.Record.{Record}
+use Rattle.intake.specs.declared.Fault.{Fault}
+use Rattle.intake.specs.declared.Fault.the-variants.{Counts}
+use Rattle.intake.specs.declared.Checked.{Checked}
+use Rattle.intake.specs.declared.Checked.the-variants.{Accepted, Refused}
+use Rattle.intake.specs.Faults.{Known, faultOf}
+use Rattle.intake.specs.Scan.{Level, level, waiting, orElse, scan}
+use Rattle.intake.proofs.Steps.{shallow, done, missing, awaited, surplus}
+use Rattle.intake.proofs.Heads.{not-in-all}
+
+-- the n groups above the innermost one, by what they await, outermost first; none is an all-group
+unfoldable pub groups : ℕ → List ℕ → List Level
+groups zero outer = []
+groups (suc n) outer = level (getD outer n 0) false ∷ groups n outer
+
+length-groups : (n : ℕ) (outer : List ℕ) → length (groups n outer) ≡ n
+unfolding groups
+length-groups zero outer = refl
+length-groups (suc n) outer = ap suc (length-groups n outer)
+
+-- an element past them is none of them
+groups-set : (n : ℕ) (outer : List ℕ) (i v : ℕ) → n ≤ i → groups n (set outer i v) ≡ groups n outer
+unfolding groups
+groups-set zero outer i v h = refl
+groups-set (suc n) outer i v h = rw (getD-set-other outer i n v 0 (λ e. omega arith), groups-set n outer i v (omega arith))
+
+-- what is to be answered for the records ts
+abbrev pub wanted : Known → List Record → Checked
+wanted known ts = scan known ts (level 1 false ∷ [])
+
+-- the records rs are left, with these levels
+pub record Scanning (known : Known) (ts : List Record) (left : ℕ) (all : Bool) (outer : List ℕ) (above : ℕ) (rs : List Record) : Type 0 where
+  pub size : length outer ≡ 12
+  pub within : above ≤ 12
+  pub answer : wanted known ts ≡ scan known rs (level left all ∷ groups above outer)
+
+pub start : (known : Known) (outer : List ℕ) (ts : List Record) → length outer ≡ 12 → Scanning known ts 1 false outer 0 ts
+unfolding groups
+start known outer ts l = record { size = l; within = omega arith; answer = refl }
+
+module _ {known : Known} {ts : List Record} {left : ℕ} {all : Bool} {outer : List ℕ} {above : ℕ} {rs : List Record} (s : Scanning known ts left all outer above rs) where
+  -- where the innermost group has its items
+  full : left ≡ 0 → wanted known ts ≡ scan known rs (groups above outer)
+  full z = rw z at (s .answer) ∙ done known rs all (groups above outer)
+
+  pub close : left ≡ 0 → 0 < above → Scanning known ts (getD outer (above - 1) 0) false outer (above - 1) rs
+  unfolding groups
+  close z h =
+      let e : above ≡ suc (above - 1) = omega arith in
+      record { size = s .size; within = omega (arith, s .within); answer = rw e at (full z) }
+
+  -- where it awaits one more at least
+  busy : (left ≡ 0 → ⊥) → wanted known ts ≡ scan known rs (level (suc (left - 1)) all ∷ groups above outer)
+  busy n =
+      let e : left ≡ suc (left - 1) = omega arith in
+      rw e at (s .answer)
+
+  -- after the last record
+  pub whole : rs ≡ [] → left ≡ 0 → above ≡ 0 → Accepted ≡ wanted known ts
+  unfolding groups scan waiting
+  whole e z h = sym (full z ∙ rw (e, h))
+
+  pub too-few : rs ≡ [] → (left ≡ 0 → ⊥) → Refused Counts ≡ wanted known ts
+  too-few e n = sym (busy n ∙ rw e (missing known (left - 1) all (groups above outer)))
+
+  -- at the record r
+  module _ {r : Record} {next : List Record} (starts : rs ≡ r ∷ next) where
+    pub too-many : left ≡ 0 → above ≡ 0 → Refused Counts ≡ wanted known ts
+    unfolding groups
+    too-many z h = sym (full z ∙ rw (starts, h) (surplus known r next))
+
+    module _ (n : left ≡ 0 → ⊥) where
+      step : wanted known ts ≡ orElse (faultOf known r (above + 1) all) (scan known next (level (r .count) (eqb (r .kind) 4) ∷ level (left - 1) all ∷ groups above outer))
+      step =
+          let d : suc (length (groups above outer)) ≡ above + 1 = omega (arith, length-groups above outer) in
+          rw (← d) (busy n ∙ rw starts (awaited known r next (left - 1) all (groups above outer)))
+
+      pub fault : {f : Fault} → faultOf known r (above + 1) all ≡ Refused f → Refused f ≡ wanted known ts
+      fault e = sym (rw e at step)
+
+      module _ (clean : faultOf known r (above + 1) all ≡ Accepted) where
+        pub leaf : r .count ≡ 0 → Scanning known ts (left - 1) all outer above next
+        leaf z = record { size = s .size; within = s .within; answer = rw (clean, z) at step ∙ done known next _ _ }
+
+        pub low : above < 12
+        low = omega (arith, shallow known r (above + 1) all clean)
+
+        pub group : (r .count ≡ 0 → ⊥) → Scanning known ts (r .count) (eqb (r .kind) 4) (set outer above (left - 1)) (above + 1) next
+        unfolding groups
+        group k =
+            let f = not-in-all known r (above + 1) all clean k in
+            record {
+              size = length-set outer above (left - 1) ∙ s .size;
+              within = omega (arith, low);
+              answer = rw (add-one above, getD-set-same outer above (left - 1) 0 (omega (arith, s .size, low)), groups-set above outer above (left - 1) (omega arith)) (rw (clean, f) at step);
+            }
