@@ -3,7 +3,7 @@ use mathlib.Core.List.{List, _++_}
 use mathlib.Core.Path.{_≡_, ap, sym, _∙_}
 use Prim.Native.Nat.{ℕ, _*_, _≤_}
 use native.Mathlib.Omega.{arith}
-use lib.ListN.{length, take, drop, length-take, length-drop, length-append}
+use lib.ListN.{length, take, drop, length-append}
 use lib.Seq.{length-take-le, take-at}
 use Rattle.particle.specs.Record.{recordSize, maxRecords}
 use Rattle.particle.specs.Tree.{tree}
@@ -12,22 +12,11 @@ use Rattle.particle.specs.Runs.{Run}
 use Rattle.particle.proofs.Encoded.{encoded-row, encoded-tree}
 use Rattle.tidying.specs.Tidy.{tidy}
 use Rattle.tidying.specs.Laid.{StartsWith}
-use Rattle.sheet.specs.Layout.{leafCount, derivedCount, baseCount, derivedAt, baseAt, derivedPart, basePart}
 use Rattle.marking.specs.Buffers.{Buffer, Prepared}
 
 -- an array of n bytes is a buffer for t
 pub buffer : {t out : List ℕ} (n : ℕ) → length out ≡ n → length t ≤ n → n ≤ recordSize * maxRecords → Buffer t out
 buffer n e room most = record { room = omega (arith, e, room); most = omega (arith, e, most) }
-
--- a sheet's trees are no longer than the sheet
-within : (s : List ℕ) (at size : ℕ) → length (take size (drop at s)) ≤ length s
-within s at size = omega (arith, length-take size (drop at s), length-drop at s)
-
-pub derived-within : (s : List ℕ) → length (derivedPart s) ≤ length s
-derived-within s = within s (derivedAt (leafCount s)) (recordSize * derivedCount s)
-
-pub base-within : (s : List ℕ) → length (basePart s) ≤ length s
-base-within s = within s (baseAt (leafCount s) (derivedCount s)) (recordSize * baseCount s)
 
 -- `&out[..end]`, as the borrow checker gives it
 pub part-length : {t out : List ℕ} {end : ℕ} → Prepared t out end → end ≡ length (take end out)

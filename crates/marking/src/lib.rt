@@ -22,8 +22,8 @@ use verdicts::Verdict;
 // The length of the longest tree in bytes.
 const CAPACITY: usize = particle::RECORD_SIZE * particle::MAX_RECORDS;
 
-// The length of a short sheet in bytes: clearing long buffers takes longer than marking it.
-const FEW: usize = 768;
+// The length of a short tree in bytes: clearing long buffers takes longer than marking it.
+const FEW: usize = 384;
 
 // What marking a sheet is answered by.
 pub enum MarkAnswer {
@@ -108,10 +108,12 @@ fn mark_accepted(s: &[u8]) -> Verdict
     requires { ⌜ sheetRefusal (now s) ≡ Accepted ⌝ }
     ensures { λ r. ⌜ markOf r ≡ markOfSheet (now (s .entry)) ⌝ }
 {
-    if s.len() <= FEW {
-        let mut derived = [0u8; FEW];
-        let mut base = [0u8; FEW];
-        return mark_in(s, &mut derived, &mut base);
+    if sheet::derived(s).len() <= FEW {
+        if sheet::base(s).len() <= FEW {
+            let mut derived = [0u8; FEW];
+            let mut base = [0u8; FEW];
+            return mark_in(s, &mut derived, &mut base);
+        }
     }
     let mut derived = [0u8; CAPACITY];
     let mut base = [0u8; CAPACITY];

@@ -1,12 +1,18 @@
 -- `marking::mark_accepted` meets its contract. Assumes nothing.
-use mathlib.Core.Path.{refl}
+use mathlib.Core.Path.{refl, ap}
 use native.Mathlib.Omega.{arith}
 use borrow.Author.Needs.{needs}
-use denote.Ref.{now}
+use lib.ListN.{length}
 use Rattle.sheet.proofs.AcceptedSheet.{passed, derived-few, base-few}
-use Rattle.marking.proofs.TidiedPart.{buffer, derived-within, base-within}
+use Rattle.marking.proofs.TidiedPart.{buffer}
 use Rattle.marking.proofs.mark_accepted.Statement.{statement}
 use Rattle.marking.proofs.mark_accepted.Tie as tie
+
+derived-requires : tie.Need-derived-requires
+derived-requires c κs = passed _ (c .before .pre) .contents
+
+base-requires : tie.Need-base-requires
+base-requires c κs = passed _ (c .before .before .before .pre) .contents
 
 slice-aggregate-mark-in : tie.Need-slice-aggregate-mark-in
 slice-aggregate-mark-in c = search needs
@@ -16,10 +22,14 @@ slice-aggregate-mark-in-2 c = search needs
 
 mark-in-requires : tie.Need-mark-in-requires
 mark-in-requires c κs =
-    let a = c .before .before .before .before in
-    let few = c .before .before .if1 .taken in
-    let s = now (a .args .s) in
-    (a .pre, (buffer _ refl (omega (arith, derived-within s, few)) (omega arith), buffer _ refl (omega (arith, base-within s, few)) (omega arith)))
+    let b = c .before .before .before in
+    let d = b .before .before in (
+      d .before .before .pre,
+      (
+        buffer _ refl (omega (arith, ap length (d .derived .ensures), b .before .if1 .taken)) (omega arith),
+        buffer _ refl (omega (arith, ap length (b .base .ensures), c .before .before .if2 .taken)) (omega arith),
+      ),
+    )
 
 returns : tie.Need-returns
 returns c = search needs
@@ -32,7 +42,7 @@ slice-aggregate-mark-in-4 c = search needs
 
 mark-in-requires-2 : tie.Need-mark-in-requires-2
 mark-in-requires-2 c κs =
-    let pre = c .before .before .before .before .pre in
+    let pre = c .before .before .before .before .before .pre in
     let p = passed _ pre in
     (pre, (buffer _ refl (derived-few p) (omega arith), buffer _ refl (base-few p) (omega arith)))
 
@@ -43,6 +53,8 @@ pub mark-accepted-spec : {M : Type 1} → statement M
 mark-accepted-spec =
     tie.close
     (tie.spec
+    derived-requires
+    base-requires
     slice-aggregate-mark-in
     slice-aggregate-mark-in-2
     mark-in-requires
