@@ -1,0 +1,202 @@
+/*
+ * marker.h: mark exam sheets in process, from C99 or C++11. Link with
+ * libexports.a, which `rt staticlib exports` writes to target/staticlib. The
+ * archive is for x86-64 Linux. link/README.md has an example.
+ *
+ * What a function promises is what its contract in crates/exports/src/lib.rt
+ * promises, over the numbers of crates/exports/specs/Numbers.antt. The
+ * contracts ask nothing of the bytes: every byte string is an input, and a bad
+ * one is refused by number. 'Document 01' is the specification of sheets,
+ * trees, marks and refusals; docs/KEY.md lists its rules.
+ *
+ * A SLICE is a pointer and, right after it, a length in bytes. The proofs
+ * suppose of each slice what its type says, and the caller must see to it:
+ *
+ * - The pointer leads to that many bytes in one piece, each of which has been
+ *   given a value, and they stay there until the call returns. At a `uint8_t *`
+ *   they can be written.
+ * - The length is below 2^63.
+ * - Where the length is 0 nothing is read or written, and the pointer may be
+ *   null or dangling.
+ * - Any address will do: bytes have no alignment.
+ * - `out` shares no byte with `tree`.
+ * - Until the call returns, nothing else (a thread, a signal handler) writes
+ *   the bytes of a slice, or reads those of `out`.
+ *
+ * A call that breaks one of these has no promise at all, as in C. In return the
+ * bytes of a `const uint8_t *` come back unchanged, no byte outside the slices
+ * is read or written, and every call ends.
+ *
+ * THREADS. The library has no variable that outlives a call, so calls in
+ * several threads do not meet, except in bytes that they are lent. This rests
+ * on the language, which has no global variables; the proofs know no threads.
+ *
+ * STACK AND TIME. There is no heap. No contract bounds the stack: functions
+ * call themselves, as deep as a tree has records, and a stack that is too small
+ * ends the process. The tests, the longest sheet among them, run on a stack of
+ * 256 KiB. No contract bounds the time either: marking can take time
+ * exponential in the base tree's depth, which is at most 12.
+ */
+#ifndef MARKER_H
+#define MARKER_H
+
+#include <stddef.h>
+#include <stdint.h>
+
+#ifdef __cplusplus
+extern "C" {
+#endif
+
+/* Lengths in bytes (document 01, 'The exam sheet'). */
+#define MARKER_RECORD 12         /* one record of a tree */
+#define MARKER_MOST_TREE 3060    /* the longest tree, of 255 records */
+#define MARKER_LEAST_SHEET 38    /* the shortest sheet */
+#define MARKER_MOST_SHEET 14576  /* the longest sheet */
+
+/* What marker_mark answers besides a reason. */
+#define MARKER_PASSES UINT32_C(0)
+#define MARKER_UNDECIDED UINT32_C(1)
+#define MARKER_REFUSED UINT32_C(1000)  /* added to a refusal's number */
+
+/* What marker_emptiable answers besides a refusal. */
+#define MARKER_NOT_EMPTIABLE UINT32_C(0)
+#define MARKER_EMPTIABLE UINT32_C(1)
+
+/* 2^32, which no minimum, bounded maximum or record count reaches. */
+#define MARKER_BEYOND UINT64_C(4294967296)  /* added to a refusal's number */
+#define MARKER_UNBOUNDED MARKER_BEYOND      /* an unbounded maximum */
+
+/* Why a sheet fails. 140 to 152 are reasons that the paper sets. */
+enum marker_reason {
+    MARKER_ELEMENT_WILDCARD_RANGE = 101,  /* element, wildcard: range */
+    MARKER_WILDCARD_ELEMENT = 102,        /* a wildcard against an element */
+    MARKER_WILDCARD_RANGE = 103,          /* wildcard, wildcard: range */
+    MARKER_WEAKER_PROCESS_CONTENTS = 104, /* weaker process contents */
+    MARKER_SEQUENCE_RANGE = 105,          /* sequence, sequence: range */
+    MARKER_CHOICE_RANGE = 106,            /* choice, choice: range */
+    MARKER_ALL_RANGE = 107,               /* all, all: range */
+    MARKER_NOT_IN_ALL = 108,              /* no untaken base element of the name */
+    MARKER_MISSING_FROM_ALL = 109,        /* untaken base element, minimum above 0 */
+    MARKER_SEQUENCE_REQUIRED = 110,       /* base sequence: minimum above 1 (*) */
+    MARKER_NO_ALTERNATIVE = 111,          /* no alternative for the element (*) */
+    MARKER_CHOICE_REQUIRED = 112,         /* base choice: minimum above 1 (*) */
+    MARKER_TOTAL_RANGE = 113,             /* group, wildcard: total range */
+    MARKER_WILDCARD_GROUP = 114,          /* a wildcard against a group */
+    MARKER_GROUP_KIND = 115,              /* kinds of group that do not fit */
+    MARKER_SEQUENCE_TOTAL = 116,          /* sequence, choice: pair times item count */
+    MARKER_MEMBER_ALTERNATIVE = 117,      /* sequence, choice: no alternative */
+    MARKER_SEQUENCE_ALL_RANGE = 118,      /* sequence, all: range */
+    MARKER_MEMBER_NOT_ELEMENT = 119,      /* sequence, all: item is no element */
+    MARKER_NOT_ALLOWED = 120,             /* walk: base items used up */
+    MARKER_REQUIRED_MISSING = 121,        /* walk: required base item left over */
+    MARKER_MIN_BELOW = 122,               /* element, element: minimum below */
+    MARKER_MAX_UNBOUNDED = 123,           /* element, element: maximum unbounded */
+    MARKER_MAX_ABOVE = 124,               /* element, element: maximum above */
+    MARKER_LEAST_SET = 140,               /* the first that the paper sets */
+    MARKER_MOST_SET = 152                 /* the last */
+};
+/* (*) Only in an element's second reading, whose reason is never the mark's. */
+
+/* Why a sheet or a tree is refused. A tree alone is refused as a derived one. */
+enum marker_refusal {
+    MARKER_REFUSAL_CONTENTS = 1,           /* length or contents of the sheet */
+    MARKER_REFUSAL_BUFFER = 2,             /* out is shorter than the tree */
+    MARKER_REFUSAL_LEAF = 3,               /* a leaf */
+    MARKER_REFUSAL_VERDICT = 4,            /* a verdict */
+    MARKER_REFUSAL_BASE_FIELDS = 5,        /* base tree: a record's fields */
+    MARKER_REFUSAL_BASE_PAIR = 6,          /* minimum above a bounded maximum */
+    MARKER_REFUSAL_BASE_ALL_GROUP = 7,     /* an all's maximum or item */
+    MARKER_REFUSAL_BASE_DEPTH = 8,         /* depth above 12 */
+    MARKER_REFUSAL_BASE_COUNTS = 9,        /* item counts, or records, do not fit */
+    MARKER_REFUSAL_DERIVED_FIELDS = 10,    /* derived tree, or a tree alone: */
+    MARKER_REFUSAL_DERIVED_PAIR = 11,      /* the same five */
+    MARKER_REFUSAL_DERIVED_ALL_GROUP = 12,
+    MARKER_REFUSAL_DERIVED_DEPTH = 13,
+    MARKER_REFUSAL_DERIVED_COUNTS = 14
+};
+
+/*
+ * The mark of a sheet.
+ *
+ * Returns MARKER_PASSES, MARKER_UNDECIDED, the reason's number where the sheet
+ * fails, or MARKER_REFUSED + N where it is refused with N: 1, 3 or 4, 5 to 9
+ * for the base tree, 10 to 14 for the derived tree. The mark is the one that
+ * document 01's rules give, the refusal the first in document 01's order.
+ */
+uint32_t marker_mark(const uint8_t *sheet, size_t sheet_len);
+
+/*
+ * The least number of the total range of a tree, as handed in.
+ *
+ * Returns the minimum, at most 4294967295: a greater one counts as
+ * 4294967295. Or MARKER_BEYOND + N where the tree is refused with N, 10 to 14.
+ */
+uint64_t marker_total_min(const uint8_t *tree, size_t tree_len);
+
+/*
+ * The greatest number of the total range of a tree, as handed in.
+ *
+ * Returns the maximum where it is bounded, at most 4294967295, and
+ * MARKER_UNBOUNDED where it is unbounded: a bounded one above 4294967295
+ * counts as unbounded. Or MARKER_BEYOND + N where the tree is refused with N,
+ * 10 to 14, the same N as marker_total_min's.
+ */
+uint64_t marker_total_max(const uint8_t *tree, size_t tree_len);
+
+/*
+ * Whether a tree, as handed in, is emptiable.
+ *
+ * Returns MARKER_EMPTIABLE or MARKER_NOT_EMPTIABLE, or N itself where the tree
+ * is refused with N, 10 to 14.
+ */
+uint32_t marker_emptiable(const uint8_t *tree, size_t tree_len);
+
+/*
+ * Tidies a tree into `out`.
+ *
+ * Returns the tidied tree's record count n. Its MARKER_RECORD * n bytes, at
+ * most tree_len, stand at the start of `out`, and every later byte of `out`
+ * keeps its value.
+ *
+ * Or returns MARKER_BEYOND + N where it is refused with N, and every byte of
+ * `out` keeps its value: 10 to 14 for the tree, then 2 where out_len is below
+ * tree_len, even if the tidied tree would fit. From out_len = tree_len on there
+ * is no refusal 2.
+ */
+uint64_t marker_tidy(const uint8_t *tree, size_t tree_len, uint8_t *out, size_t out_len);
+
+/*
+ * Copies the k-th item of a tree's root, from 0, to `out`.
+ *
+ * Returns the item's length in bytes, or 0 where the tree is refused or k is
+ * not below the root's item count; the two are not told apart. The item is its
+ * whole run of records in the tree as handed in. Where its length is at most
+ * out_len, its bytes stand at the start of `out` and every later byte of `out`
+ * keeps its value. Otherwise every byte of `out` keeps its value, so that
+ * out_len = 0 asks for the length alone.
+ */
+size_t marker_item(const uint8_t *tree, size_t tree_len, size_t k, uint8_t *out, size_t out_len);
+
+/* The refusal's number in what marker_mark returned; 0 where there is none. */
+static inline uint32_t marker_mark_refusal(uint32_t mark)
+{
+    return mark > MARKER_REFUSED ? mark - MARKER_REFUSED : 0;
+}
+
+/* The same for marker_total_min, marker_total_max and marker_tidy. */
+static inline uint32_t marker_number_refusal(uint64_t number)
+{
+    return number > MARKER_BEYOND ? (uint32_t)(number - MARKER_BEYOND) : 0;
+}
+
+/* The same for marker_emptiable. */
+static inline uint32_t marker_emptiable_refusal(uint32_t answer)
+{
+    return answer > MARKER_EMPTIABLE ? answer : 0;
+}
+
+#ifdef __cplusplus
+}
+#endif
+
+#endif

@@ -1,0 +1,261 @@
+//! The marker for Rust: safe functions over the C functions of `libexports.a`,
+//! which `rt staticlib exports` writes. Take this file into a crate as a module
+//! (`mod marker;`), a `no_std` crate too: it uses `core` alone. link/README.md
+//! has an example with its command.
+//!
+//! Every byte string is an input, and a bad one is refused by number. What a
+//! function promises is what the contracts in crates/exports/src/lib.rt
+//! promise; link/marker.h words them one by one and says what holds of threads,
+//! stack and time. What a caller in C must see to, Rust's types see to here.
+//! 'Document 01' is the specification of sheets, trees, marks and refusals.
+
+// A program may use a part of it.
+#![allow(dead_code)]
+
+use core::fmt;
+
+// As link/marker.h declares them: a slice is a pointer and a length. Nothing
+// but the tests checks these lines against the archive.
+extern "C" {
+    fn marker_mark(sheet: *const u8, sheet_len: usize) -> u32;
+    fn marker_total_min(tree: *const u8, tree_len: usize) -> u64;
+    fn marker_total_max(tree: *const u8, tree_len: usize) -> u64;
+    fn marker_emptiable(tree: *const u8, tree_len: usize) -> u32;
+    fn marker_tidy(tree: *const u8, tree_len: usize, out: *mut u8, out_len: usize) -> u64;
+    fn marker_item(
+        tree: *const u8,
+        tree_len: usize,
+        k: usize,
+        out: *mut u8,
+        out_len: usize,
+    ) -> usize;
+}
+
+/// The length of a tree's record in bytes.
+pub const RECORD: usize = 12;
+
+/// The length in bytes of the longest tree, of 255 records.
+pub const MOST_TREE: usize = 3060;
+
+/// The length in bytes of the longest sheet.
+pub const MOST_SHEET: usize = 14576;
+
+// Added to the number of a sheet's refusal.
+const REFUSED: u32 = 1000;
+
+// 2^32: an unbounded maximum; and added to the number of a tree's refusal.
+const BEYOND: u64 = 1 << 32;
+
+/// The mark of a sheet. It displays as the line that the marking program
+/// prints.
+#[derive(Debug, Clone, Copy, PartialEq, Eq, Hash)]
+pub enum Mark {
+    /// The derived tree restricts the base tree.
+    Passes,
+    /// The sheet's verdicts, or the rules, leave it open.
+    Undecided,
+    /// It does not, for this reason.
+    Fails(Reason),
+    /// The sheet is not read.
+    Refused(Refusal),
+}
+
+impl fmt::Display for Mark {
+    fn fmt(&self, f: &mut fmt::Formatter<'_>) -> fmt::Result {
+        match self {
+            Mark::Passes => f.write_str("passes"),
+            Mark::Undecided => f.write_str("undecided"),
+            Mark::Fails(reason) => write!(f, "fails {}", reason.number()),
+            Mark::Refused(refusal) => write!(f, "refused {}", refusal.number()),
+        }
+    }
+}
+
+// A type of document 01's numbers: a constant for each, whose words are its
+// documentation and what it displays as; other numbers display as $other.
+macro_rules! numbers {
+    ($(#[$doc:meta])* $type:ident, $other:literal: $($number:literal $name:ident $words:literal)*) => {
+        $(#[$doc])*
+        #[derive(Debug, Clone, Copy, PartialEq, Eq, Hash, PartialOrd, Ord)]
+        pub struct $type(u32);
+
+        impl $type {
+            $(
+                #[doc = $words]
+                pub const $name: $type = $type($number);
+            )*
+
+            /// Document 01's number.
+            pub fn number(self) -> u32 {
+                self.0
+            }
+        }
+
+        impl fmt::Display for $type {
+            fn fmt(&self, f: &mut fmt::Formatter<'_>) -> fmt::Result {
+                f.write_str(match self.0 {
+                    $($number => $words,)*
+                    _ => $other,
+                })
+            }
+        }
+    };
+}
+
+numbers! {
+    /// Why a sheet fails: 101 to 124, or 140 to 152 for a reason that the paper
+    /// sets. 110 to 112 arise only in an element's second reading, whose reason
+    /// is never the mark's. It displays as words.
+    Reason, "a reason that the paper sets":
+    101 ELEMENT_WILDCARD_RANGE "element, wildcard: range"
+    102 WILDCARD_ELEMENT "a wildcard against an element"
+    103 WILDCARD_RANGE "wildcard, wildcard: range"
+    104 WEAKER_PROCESS_CONTENTS "weaker process contents"
+    105 SEQUENCE_RANGE "sequence, sequence: range"
+    106 CHOICE_RANGE "choice, choice: range"
+    107 ALL_RANGE "all, all: range"
+    108 NOT_IN_ALL "no untaken base element of the name"
+    109 MISSING_FROM_ALL "untaken base element, minimum above 0"
+    110 SEQUENCE_REQUIRED "base sequence: minimum above 1"
+    111 NO_ALTERNATIVE "no alternative for the element"
+    112 CHOICE_REQUIRED "base choice: minimum above 1"
+    113 TOTAL_RANGE "group, wildcard: total range"
+    114 WILDCARD_GROUP "a wildcard against a group"
+    115 GROUP_KIND "kinds of group that do not fit"
+    116 SEQUENCE_TOTAL "sequence, choice: pair times item count"
+    117 MEMBER_ALTERNATIVE "sequence, choice: no alternative"
+    118 SEQUENCE_ALL_RANGE "sequence, all: range"
+    119 MEMBER_NOT_ELEMENT "sequence, all: item is no element"
+    120 NOT_ALLOWED "walk: base items used up"
+    121 REQUIRED_MISSING "walk: required base item left over"
+    122 MIN_BELOW "element, element: minimum below"
+    123 MAX_UNBOUNDED "element, element: maximum unbounded"
+    124 MAX_ABOVE "element, element: maximum above"
+}
+
+numbers! {
+    /// Why a sheet or a tree is refused: 1 to 14. A tree alone is refused as a
+    /// derived tree is. It displays as words.
+    Refusal, "no refusal of document 01":
+    1 CONTENTS "length or contents of the sheet"
+    2 BUFFER "the buffer is shorter than the tree"
+    3 LEAF "a leaf"
+    4 VERDICT "a verdict"
+    5 BASE_FIELDS "base tree: a record's fields"
+    6 BASE_PAIR "base tree: minimum above a bounded maximum"
+    7 BASE_ALL_GROUP "base tree: an all's maximum or item"
+    8 BASE_DEPTH "base tree: depth above 12"
+    9 BASE_COUNTS "base tree: item counts, or records, do not fit"
+    10 DERIVED_FIELDS "derived tree, or a tree alone: a record's fields"
+    11 DERIVED_PAIR "derived tree, or a tree alone: minimum above a bounded maximum"
+    12 DERIVED_ALL_GROUP "derived tree, or a tree alone: an all's maximum or item"
+    13 DERIVED_DEPTH "derived tree, or a tree alone: depth above 12"
+    14 DERIVED_COUNTS "derived tree, or a tree alone: item counts, or records, do not fit"
+}
+
+/// A total range: its least and its greatest number.
+#[derive(Debug, Clone, Copy, PartialEq, Eq, Hash)]
+pub struct Range {
+    /// A minimum above 4294967295 counts as 4294967295.
+    pub min: u32,
+    /// A bounded maximum above 4294967295 counts as unbounded.
+    pub max: Maximum,
+}
+
+/// The greatest number of a range.
+#[derive(Debug, Clone, Copy, PartialEq, Eq, Hash)]
+pub enum Maximum {
+    /// This number.
+    Bounded(u32),
+    /// There is none.
+    Unbounded,
+}
+
+/// The mark of a sheet: the one that document 01's rules give, or the first
+/// refusal in document 01's order.
+pub fn mark(sheet: &[u8]) -> Mark {
+    // SAFETY: a `&[u8]` is what the header asks of a slice.
+    match unsafe { marker_mark(sheet.as_ptr(), sheet.len()) } {
+        0 => Mark::Passes,
+        1 => Mark::Undecided,
+        number if number > REFUSED => Mark::Refused(Refusal(number - REFUSED)),
+        number => Mark::Fails(Reason(number)),
+    }
+}
+
+/// The total range of a tree, as handed in; refused with 10 to 14.
+pub fn total_range(tree: &[u8]) -> Result<Range, Refusal> {
+    // SAFETY: a `&[u8]` is what the header asks of a slice.
+    let min = unsafe { marker_total_min(tree.as_ptr(), tree.len()) };
+    // SAFETY: as above.
+    let max = unsafe { marker_total_max(tree.as_ptr(), tree.len()) };
+    let max = match u32::try_from(unless_refused(max)?) {
+        Ok(number) => Maximum::Bounded(number),
+        Err(_) => Maximum::Unbounded,
+    };
+    // A minimum is below 2^32.
+    Ok(Range { min: unless_refused(min)? as u32, max })
+}
+
+/// Whether a tree, as handed in, is emptiable; refused with 10 to 14.
+pub fn emptiable(tree: &[u8]) -> Result<bool, Refusal> {
+    // SAFETY: a `&[u8]` is what the header asks of a slice.
+    match unsafe { marker_emptiable(tree.as_ptr(), tree.len()) } {
+        0 => Ok(false),
+        1 => Ok(true),
+        number => Err(Refusal(number)),
+    }
+}
+
+/// Tidies a tree into `out` and gives its new record count n. The tidied tree
+/// is `out[..RECORD * n]`, which is no longer than `tree`; every later byte of
+/// `out` keeps its value. Refused with 10 to 14, then with 2 where `out` is
+/// shorter than `tree`, and then every byte of `out` keeps its value.
+pub fn tidy(tree: &[u8], out: &mut [u8]) -> Result<usize, Refusal> {
+    let (lent, len) = (out.as_mut_ptr(), out.len());
+    // SAFETY: a `&[u8]` and a `&mut [u8]` are what the header asks of the two
+    // slices, and share no byte.
+    let count = unsafe { marker_tidy(tree.as_ptr(), tree.len(), lent, len) };
+    // At most 255 records.
+    Ok(unless_refused(count)? as usize)
+}
+
+/// Copies the k-th item of a tree's root, from 0, to the start of `out`, and
+/// gives its length in bytes; 0 where the tree is refused or k is not below the
+/// item count. Every later byte of `out` keeps its value, and every byte of
+/// `out` where the item is longer than `out`.
+pub fn copy_item(tree: &[u8], k: usize, out: &mut [u8]) -> usize {
+    let (lent, len) = (out.as_mut_ptr(), out.len());
+    // SAFETY: as in `tidy`.
+    unsafe { marker_item(tree.as_ptr(), tree.len(), k, lent, len) }
+}
+
+/// The k-th item of a tree's root, from 0, as a part of the tree's own bytes.
+/// `None` where the tree is refused or k is not below the item count.
+///
+/// The library hands out an item's length and a copy of it, not its place. The
+/// place is worked out here: the first item follows the root's record, and each
+/// next item follows the one before it. So this makes k + 1 calls.
+pub fn item(tree: &[u8], k: usize) -> Option<&[u8]> {
+    let mut start = RECORD;
+    for before in 0..k {
+        let length = copy_item(tree, before, &mut []);
+        if length == 0 {
+            return None;
+        }
+        start += length;
+    }
+    match copy_item(tree, k, &mut []) {
+        0 => None,
+        length => tree.get(start..start + length),
+    }
+}
+
+// The number, unless it stands for a tree's refusal.
+fn unless_refused(number: u64) -> Result<u64, Refusal> {
+    match number.checked_sub(BEYOND) {
+        None | Some(0) => Ok(number),
+        // Refusals are 1 to 14.
+        Some(refusal) => Err(Refusal(refusal as u32)),
+    }
+}

@@ -1,0 +1,294 @@
+//! Tests of marker.rs against the archive: each function, each refusal, every
+//! byte of a lent buffer.
+
+mod marker;
+
+use marker::{
+    copy_item, emptiable, item, mark, tidy, total_range, Mark, Maximum, Range, Reason, Refusal,
+};
+use marker::{MOST_SHEET, MOST_TREE, RECORD};
+
+const ELEMENT: u8 = 0;
+const WILDCARD: u8 = 1;
+const SEQUENCE: u8 = 2;
+const CHOICE: u8 = 3;
+const ALL: u8 = 4;
+
+// Places of a record's fields.
+const COUNT: usize = 2;
+const MARK: usize = 3;
+const MIN: usize = 4;
+const MAX: usize = 8;
+
+/// A maximum of `None` is unbounded.
+fn record(kind: u8, leaf: u8, count: u8, min: u32, max: Option<u32>) -> [u8; RECORD] {
+    let mut bytes = [kind, leaf, count, u8::from(max.is_none()), 0, 0, 0, 0, 0, 0, 0, 0];
+    bytes[MIN..MAX].copy_from_slice(&min.to_le_bytes());
+    bytes[MAX..].copy_from_slice(&max.unwrap_or(0).to_le_bytes());
+    bytes
+}
+
+/// A (1,1) record.
+fn once(kind: u8, leaf: u8, count: u8) -> [u8; RECORD] {
+    record(kind, leaf, count, 1, Some(1))
+}
+
+/// An element below so many (1,1) groups.
+fn element_below(groups: usize) -> Vec<u8> {
+    let mut tree = once(CHOICE, 0, 1).repeat(groups);
+    tree.extend(once(ELEMENT, 0, 0));
+    tree
+}
+
+/// Document 01's printed sheet, and where its parts begin.
+const PRINTED: [u8; 38] = [
+    1, 1, 1, 0, 38, 0, 0, 0, // contents
+    0, 0, 0, 0, // leaf
+    0, 0, // tables
+    0, 0, 0, 0, 1, 0, 0, 0, 1, 0, 0, 0, // derived tree
+    0, 0, 0, 0, 0, 0, 0, 0, 1, 0, 0, 0, // base tree
+];
+const LEAF: usize = 8;
+const FIRST: usize = 12;
+const SECOND: usize = 13;
+const DERIVED: usize = 14;
+const BASE: usize = 26;
+
+/// The mark of the printed sheet after changes, each a place and its value.
+fn changed(changes: &[(usize, u8)]) -> Mark {
+    let mut sheet = PRINTED;
+    for &(place, value) in changes {
+        sheet[place] = value;
+    }
+    let lent = sheet;
+    let answer = mark(&lent);
+    assert_eq!(lent, sheet, "the sheet comes back unchanged");
+    answer
+}
+
+/// The mark of elements below groups: of depth 13 with 12.
+fn mark_below(derived_groups: usize, base_groups: usize) -> Mark {
+    let mut sheet = PRINTED[..DERIVED].to_vec();
+    sheet.extend(element_below(derived_groups));
+    sheet.extend(element_below(base_groups));
+    sheet[1] = derived_groups as u8 + 1;
+    sheet[2] = base_groups as u8 + 1;
+    let total = sheet.len() as u32;
+    sheet[4..8].copy_from_slice(&total.to_le_bytes());
+    mark(&sheet)
+}
+
+#[test]
+fn marks() {
+    assert_eq!(mark(&PRINTED), Mark::Passes);
+    assert_eq!(changed(&[(FIRST, 1)]), Mark::Undecided);
+    assert_eq!(changed(&[(DERIVED + MIN, 0), (BASE + MIN, 1)]), Mark::Fails(Reason::MIN_BELOW));
+    assert_eq!(changed(&[(DERIVED + MAX, 2)]), Mark::Fails(Reason::MAX_ABOVE));
+    let unbounded = changed(&[(DERIVED + MARK, 1), (DERIVED + MAX, 0)]);
+    assert_eq!(unbounded, Mark::Fails(Reason::MAX_UNBOUNDED));
+    assert_eq!(mark_below(11, 11), Mark::Passes);
+}
+
+#[test]
+fn set_by_the_paper() {
+    for number in 140..=152 {
+        match changed(&[(SECOND, number)]) {
+            Mark::Fails(reason) => assert_eq!(reason.number(), u32::from(number)),
+            other => panic!("verdict {number} gives {other:?}"),
+        }
+    }
+}
+
+#[test]
+fn refused_sheets() {
+    assert_eq!(mark(&[]), Mark::Refused(Refusal::CONTENTS));
+    assert_eq!(mark(&PRINTED[..37]), Mark::Refused(Refusal::CONTENTS));
+    assert_eq!(mark(&[0; MOST_SHEET + 1]), Mark::Refused(Refusal::CONTENTS));
+    assert_eq!(changed(&[(LEAF, 2)]), Mark::Refused(Refusal::LEAF));
+    assert_eq!(changed(&[(FIRST, 2)]), Mark::Refused(Refusal::VERDICT));
+}
+
+/// The five refusals of the tree at `root`: fields, pair, all-group, counts;
+/// depth is that of the sheet with 12 groups above the element.
+fn refused_trees(root: usize, deep: Mark, expected: [Refusal; 5]) {
+    let [fields, pair, all_group, depth, counts] = expected.map(Mark::Refused);
+    assert_eq!(changed(&[(root, 5)]), fields);
+    assert_eq!(changed(&[(root + MIN, 2)]), pair);
+    assert_eq!(changed(&[(root, ALL), (root + MAX, 2)]), all_group);
+    assert_eq!(deep, depth);
+    assert_eq!(changed(&[(root, SEQUENCE), (root + COUNT, 1)]), counts);
+}
+
+#[test]
+fn refused_base_trees() {
+    let expected = [
+        Refusal::BASE_FIELDS,
+        Refusal::BASE_PAIR,
+        Refusal::BASE_ALL_GROUP,
+        Refusal::BASE_DEPTH,
+        Refusal::BASE_COUNTS,
+    ];
+    refused_trees(BASE, mark_below(0, 12), expected);
+}
+
+#[test]
+fn refused_derived_trees() {
+    let expected = [
+        Refusal::DERIVED_FIELDS,
+        Refusal::DERIVED_PAIR,
+        Refusal::DERIVED_ALL_GROUP,
+        Refusal::DERIVED_DEPTH,
+        Refusal::DERIVED_COUNTS,
+    ];
+    refused_trees(DERIVED, mark_below(12, 0), expected);
+}
+
+/// Every function for a tree refuses it so; nothing is written.
+fn refused_alone(tree: &[u8], refusal: Refusal) {
+    assert_eq!(total_range(tree), Err(refusal));
+    assert_eq!(emptiable(tree), Err(refusal));
+    let mut out = pattern(MOST_TREE + RECORD);
+    assert_eq!(tidy(tree, &mut out), Err(refusal));
+    assert_eq!(copy_item(tree, 0, &mut out), 0);
+    assert_eq!(out, pattern(MOST_TREE + RECORD), "nothing is written");
+    assert_eq!(item(tree, 0), None);
+}
+
+#[test]
+fn refused_trees_alone() {
+    refused_alone(&once(ELEMENT, 64, 0), Refusal::DERIVED_FIELDS);
+    refused_alone(&record(ELEMENT, 0, 0, 2, Some(1)), Refusal::DERIVED_PAIR);
+    refused_alone(&record(ALL, 0, 0, 0, Some(2)), Refusal::DERIVED_ALL_GROUP);
+    refused_alone(&element_below(12), Refusal::DERIVED_DEPTH);
+    refused_alone(&once(SEQUENCE, 0, 1), Refusal::DERIVED_COUNTS);
+    refused_alone(&element_below(3)[..47], Refusal::DERIVED_COUNTS);
+    refused_alone(&[0; MOST_TREE + RECORD], Refusal::DERIVED_COUNTS);
+    refused_alone(&[], Refusal::DERIVED_COUNTS);
+}
+
+/// A (min, max) sequence of one element.
+fn one_element(pair: (u32, u32), of: (u32, Option<u32>)) -> Vec<u8> {
+    let group = record(SEQUENCE, 0, 1, pair.0, Some(pair.1));
+    [group, record(ELEMENT, 0, 0, of.0, of.1)].concat()
+}
+
+#[test]
+fn totals() {
+    let greatest = one_element((65535, 65535), (65537, Some(65537)));
+    let range = Range { min: u32::MAX, max: Maximum::Bounded(u32::MAX) };
+    assert_eq!(total_range(&greatest), Ok(range));
+    let too_large = one_element((65536, 65536), (65536, Some(65536)));
+    let range = Range { min: u32::MAX, max: Maximum::Unbounded };
+    assert_eq!(total_range(&too_large), Ok(range));
+    let range = Range { min: 2, max: Maximum::Unbounded };
+    assert_eq!(total_range(&one_element((2, 3), (1, None))), Ok(range));
+    let range = Range { min: 0, max: Maximum::Bounded(12) };
+    assert_eq!(total_range(&one_element((2, 3), (0, Some(4)))), Ok(range));
+}
+
+#[test]
+fn emptiness() {
+    assert_eq!(emptiable(&one_element((2, 3), (0, Some(1)))), Ok(true));
+    assert_eq!(emptiable(&one_element((2, 3), (1, Some(1)))), Ok(false));
+}
+
+/// Bytes each of which has a value of its own.
+fn pattern(length: usize) -> Vec<u8> {
+    (0..length).map(|place| (7 * place + 3) as u8).collect()
+}
+
+/// The pattern with bytes at its start.
+fn starting_with(bytes: &[u8], length: usize) -> Vec<u8> {
+    let mut out = pattern(length);
+    out[..bytes.len()].copy_from_slice(bytes);
+    out
+}
+
+/// S(2,3)[C[a,b]] becomes C(2,3)[a,b].
+#[test]
+fn tidying() {
+    let items = [once(ELEMENT, 0, 0), once(ELEMENT, 1, 0)].concat();
+    let groups = [record(SEQUENCE, 0, 1, 2, Some(3)), once(CHOICE, 0, 2)].concat();
+    let tree = [groups, items.clone()].concat();
+    let tidied = [record(CHOICE, 0, 2, 2, Some(3)).to_vec(), items].concat();
+    for length in [tree.len(), tree.len() + 1, 64] {
+        let mut out = pattern(length);
+        assert_eq!(tidy(&tree, &mut out), Ok(3));
+        assert_eq!(out, starting_with(&tidied, length));
+    }
+    for length in [0, tidied.len(), tree.len() - 1] {
+        let mut out = pattern(length);
+        assert_eq!(tidy(&tree, &mut out), Err(Refusal::BUFFER));
+        assert_eq!(out, pattern(length));
+    }
+}
+
+/// S[a,C[b],w]
+fn of_three_items() -> Vec<u8> {
+    let records = [
+        once(SEQUENCE, 0, 3),
+        once(ELEMENT, 0, 0),
+        once(CHOICE, 0, 1),
+        once(ELEMENT, 1, 0),
+        record(WILDCARD, 2, 0, 0, None),
+    ];
+    records.concat()
+}
+
+#[test]
+fn items() {
+    let tree = of_three_items();
+    let places = [12..24, 24..48, 48..60];
+    for (k, place) in places.iter().enumerate() {
+        let found = item(&tree, k).expect("an item");
+        assert_eq!(found.as_ptr_range(), tree[place.clone()].as_ptr_range(), "item {k}");
+    }
+    for k in [3, usize::MAX] {
+        assert_eq!(item(&tree, k), None);
+    }
+    assert_eq!(item(&once(ELEMENT, 0, 0), 0), None);
+}
+
+#[test]
+fn copied_items() {
+    let tree = of_three_items();
+    for k in 0..3 {
+        let expected = item(&tree, k).expect("an item");
+        for length in [expected.len(), expected.len() + 1, 64] {
+            let mut out = pattern(length);
+            assert_eq!(copy_item(&tree, k, &mut out), expected.len());
+            assert_eq!(out, starting_with(expected, length));
+        }
+        let mut short = pattern(expected.len() - 1);
+        assert_eq!(copy_item(&tree, k, &mut short), expected.len());
+        assert_eq!(short, pattern(expected.len() - 1));
+    }
+    let mut out = pattern(64);
+    assert_eq!(copy_item(&tree, 3, &mut out), 0);
+    assert_eq!(out, pattern(64));
+}
+
+/// S[a,a,..] of 255 records, alone and as both trees of the longest sheet.
+#[test]
+fn longest() {
+    let tree = [once(SEQUENCE, 0, 254).to_vec(), once(ELEMENT, 0, 0).repeat(254)].concat();
+    let leaves_and_tables = vec![0; 64 * 4 + 2 * 64 * 64];
+    let contents = vec![64, 255, 255, 0, 0xf0, 0x38, 0, 0];
+    let sheet = [contents, leaves_and_tables, tree.clone(), tree.clone()].concat();
+    assert_eq!((tree.len(), sheet.len()), (MOST_TREE, MOST_SHEET));
+    assert_eq!(mark(&sheet), Mark::Passes);
+    assert_eq!(tidy(&tree, &mut [0; MOST_TREE]), Ok(255));
+    assert_eq!(item(&tree, 253), Some(&tree[MOST_TREE - RECORD..]));
+}
+
+#[test]
+fn words() {
+    assert_eq!(mark(&PRINTED).to_string(), "passes");
+    assert_eq!(changed(&[(FIRST, 1)]).to_string(), "undecided");
+    assert_eq!(Mark::Fails(Reason::MIN_BELOW).to_string(), "fails 122");
+    assert_eq!(mark(&[]).to_string(), "refused 1");
+    assert_eq!(Reason::MIN_BELOW.to_string(), "element, element: minimum below");
+    assert_eq!(Refusal::BUFFER.to_string(), "the buffer is shorter than the tree");
+    let Mark::Fails(set) = changed(&[(FIRST, 140)]) else { panic!("140 is a reason") };
+    assert_eq!(set.to_string(), "a reason that the paper sets");
+}
