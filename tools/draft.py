@@ -1,0 +1,124 @@
+"""The sheet that a paper's text describes: document 01's defaults (equal
+letters ok, others 140), changed by the statements."""
+
+from faults import PaperError, Token
+from notation import LeafNames, TreeReader, leaf_kind
+from scanner import Scanner
+from sheet import Kind, Sheet, usual_leaf, usual_table
+from statements import LeafList, NameNumber, ProcessContents, read_statement
+
+# The leaf of a paper whose trees have none: a sheet has at least one.
+ONLY_LEAF = "a"
+
+
+def parse(text):
+    """The sheet; raises PaperError at the first fault."""
+    lines = text.split("\n")
+    scanners = [Scanner(line, number) for number, line in enumerate(lines, 1)]
+    scanners = [scanner for scanner in scanners if not scanner.is_blank]
+    if not scanners:
+        end = Token("", len(lines), 1)
+        raise PaperError(end, "two trees, DERIVED | BASE", "the end of the paper")
+    names = LeafNames()
+    derived, base = read_trees(scanners[0], names)
+    statements = [read_statement(scanner) for scanner in scanners[1:]]
+    draft = Draft(leaf_order(statements, names))
+    for statement in statements:
+        draft.apply(statement)
+    order = [draft.numbers[name] for name in names.numbers]
+    derived, base = renumbered(derived, order), renumbered(base, order)
+    return Sheet(draft.leaves, draft.first, draft.second, derived, base)
+
+
+def read_trees(scanner, names):
+    derived = TreeReader(scanner, names).tree()
+    scanner.expect("|")
+    base = TreeReader(scanner, names).tree()
+    scanner.expect_end()
+    return derived, base
+
+
+def renumbered(tree, order):
+    """The tree with the leaf k as ``order`` has it at place k."""
+    leaf = order[tree.leaf] if tree.kind.is_leaf else 0
+    return tree._replace(leaf=leaf, items=[renumbered(item, order) for item in tree.items])
+
+
+def leaf_order(statements, names):
+    """The leaves in the order of their numbers: as listed, or as they turn up
+    in the trees."""
+    listed = [statement for statement in statements if isinstance(statement, LeafList)]
+    if not listed:
+        return list(names.numbers) or [ONLY_LEAF]
+    if len(listed) > 1:
+        raise second_time(listed[1].word, "one list of leaves", listed[0].word.line)
+    order = LeafNames()
+    for leaf in listed[0].leaves:
+        if leaf.text in order.numbers:
+            raise PaperError(leaf, "each leaf once", f"'{leaf.text}' again")
+        order.number(leaf)
+    for name in names.numbers:
+        if name not in order.numbers:
+            raise PaperError(listed[0].end, f"'{name}' too, which the trees have")
+    return list(order.numbers)
+
+
+def second_time(token, expected, line):
+    return PaperError(token, expected, f"another; line {line} has the first")
+
+
+class Draft:
+    """Leaves and tables, and which line has set what."""
+
+    def __init__(self, order):
+        self.numbers = {name: number for number, name in enumerate(order)}
+        self.leaves = [usual_leaf(leaf_kind(name), number) for number, name in enumerate(order)]
+        self.first = usual_table(len(order))
+        self.second = usual_table(len(order))
+        self.set_by = {}
+
+    def apply(self, statement):
+        if isinstance(statement, LeafList):
+            return
+        if isinstance(statement, NameNumber):
+            for token in statement.leaves:
+                number = self.leaf(token, Kind.ELEMENT, "name number")
+                self.leaves[number] = self.leaves[number]._replace(name=statement.number)
+        elif isinstance(statement, ProcessContents):
+            for token in statement.leaves:
+                number = self.leaf(token, Kind.WILDCARD, "setting of process contents")
+                self.leaves[number] = self.leaves[number]._replace(process=statement.process)
+        else:
+            self.set_verdicts(statement)
+
+    def leaf(self, token, kind, what):
+        """The number of a leaf of this kind, of which something is set."""
+        number = self.number(token)
+        if self.leaves[number].kind != kind:
+            wanted = "an element" if kind == Kind.ELEMENT else "a wildcard"
+            raise PaperError(token, f"{wanted} for a {what}")
+        self.claim(token, number, f"one {what} for '{token.text}'")
+        return number
+
+    def number(self, token):
+        if token.text not in self.numbers:
+            raise PaperError(token, "a leaf of the trees or of a line 'leaves : ...'")
+        return self.numbers[token.text]
+
+    def set_verdicts(self, statement):
+        tables = [(self.first, "first", statement.first), (self.second, "second", statement.second)]
+        for derived in statement.derived:
+            for base in statement.base:
+                row, column = self.number(derived), self.number(base)
+                for table, which, verdict in tables:
+                    if verdict is not None:
+                        pair = f"'{derived.text} | {base.text}'"
+                        once = f"one verdict for {pair} in the {which} table"
+                        self.claim(derived, (which, row, column), once)
+                        table[row][column] = verdict
+
+    def claim(self, token, key, once):
+        """Notes that the token's line sets something, which may be set once."""
+        if key in self.set_by:
+            raise second_time(token, once, self.set_by[key])
+        self.set_by[key] = token.line

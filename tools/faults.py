@@ -1,0 +1,49 @@
+"""A fault in a paper: the place, what was expected there and what was found."""
+
+from typing import NamedTuple
+
+LONGEST_WORD = 40
+# How much of a line is shown before and after the place.
+BEFORE, AFTER = 50, 25
+
+
+class Token(NamedTuple):
+    # Empty at the end of the line.
+    text: str
+    # Both from 1.
+    line: int
+    column: int
+
+    def shown(self):
+        if not self.text:
+            return "the end of the line"
+        cut = "..." if len(self.text) > LONGEST_WORD else ""
+        return f"'{printable(self.text[:LONGEST_WORD])}{cut}'"
+
+
+class PaperError(Exception):
+    """Something else was expected at a token."""
+
+    def __init__(self, token, expected, found=None):
+        super().__init__(f"expected {expected}, found {found or token.shown()}")
+        self.line = token.line
+        self.column = token.column
+
+    def report(self, file, text):
+        """The message, the line, and a caret below the column."""
+        line = text.split("\n")[self.line - 1].rstrip()
+        return f"{file}:{self.line}:{self.column}: {self}\n{pointer(line, self.column - 1)}"
+
+
+def pointer(line, place):
+    """The part of the line about a place (from 0), and a caret below the place."""
+    start = max(0, place - BEFORE)
+    end = max(place + AFTER, BEFORE + AFTER)
+    front = "..." if start else ""
+    back = "..." if end < len(line) else ""
+    blank = "".join(c if c == "\t" else " " for c in front + line[start:place])
+    return f"  {front}{printable(line[start:end])}{back}\n  {blank}^"
+
+
+def printable(text):
+    return "".join(c if c.isprintable() or c == "\t" else "?" for c in text)

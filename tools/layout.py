@@ -1,0 +1,89 @@
+"""The bytes of an exam sheet (document 01, 'The exam sheet'). The layout of
+sheet, leaf and record stands here only. Numbers are little-endian."""
+
+import struct
+from typing import NamedTuple
+
+from sheet import Leaf
+
+CONTENTS = struct.Struct("<BBBBI")
+LEAF = struct.Struct("<BBH")
+RECORD = struct.Struct("<BBBBII")
+
+
+class Contents(NamedTuple):
+    leaves: int
+    derived: int
+    base: int
+    zero: int
+    total: int
+
+
+class Record(NamedTuple):
+    kind: int
+    leaf: int
+    count: int
+    # 1 is unbounded.
+    mark: int
+    minimum: int
+    maximum: int
+
+
+class Places(NamedTuple):
+    """Where each body starts, and where the last one ends."""
+
+    leaves: int
+    first: int
+    second: int
+    derived: int
+    base: int
+    end: int
+
+
+def places(contents):
+    leaves = CONTENTS.size
+    first = leaves + LEAF.size * contents.leaves
+    second = first + contents.leaves ** 2
+    derived = second + contents.leaves ** 2
+    base = derived + RECORD.size * contents.derived
+    end = base + RECORD.size * contents.base
+    return Places(leaves, first, second, derived, base, end)
+
+
+def contents_of(data):
+    """The contents of at least CONTENTS.size bytes."""
+    return Contents(*CONTENTS.unpack_from(data))
+
+
+def leaves_of(body):
+    return [Leaf(*fields) for fields in LEAF.iter_unpack(body)]
+
+
+def records_of(body):
+    return [Record(*fields) for fields in RECORD.iter_unpack(body)]
+
+
+def rows_of(body, count):
+    """A table's rows of so many verdicts each."""
+    return [list(body[at:at + count]) for at in range(0, len(body), count)]
+
+
+def encode(sheet):
+    """The bytes of a sheet."""
+    derived = encode_tree(sheet.derived)
+    base = encode_tree(sheet.base)
+    counts = Contents(
+        len(sheet.leaves), len(derived) // RECORD.size, len(base) // RECORD.size, 0, 0
+    )
+    contents = counts._replace(total=places(counts).end)
+    leaves = b"".join(LEAF.pack(*leaf) for leaf in sheet.leaves)
+    tables = b"".join(bytes(row) for row in sheet.first + sheet.second)
+    return CONTENTS.pack(*contents) + leaves + tables + derived + base
+
+
+def encode_tree(tree):
+    """A tree's records: a group precedes its items."""
+    unbounded = tree.maximum is None
+    maximum = 0 if unbounded else tree.maximum
+    record = Record(tree.kind, tree.leaf, len(tree.items), unbounded, tree.minimum, maximum)
+    return RECORD.pack(*record) + b"".join(encode_tree(item) for item in tree.items)

@@ -1,0 +1,109 @@
+"""The statements of a paper, one to a line after the trees:
+
+    leaves : a, b, w          every leaf, in the order of the leaf numbers
+    a, b : name 7             local name number
+    w : lax                   process contents
+    a | b, c : undecided      verdict in both tables, or first ..., second ...
+
+What they mean for the sheet is the matter of draft.py."""
+
+from typing import List, NamedTuple, Optional, Union
+
+from faults import Token
+from notation import A_LEAF, leaf_kind
+from scanner import as_number
+from sheet import MOST_NAME, OK, PROCESS_CONTENTS, SET_REASONS, UNDECIDED, is_verdict
+
+VERDICT_WORDS = {"ok": OK, "undecided": UNDECIDED}
+A_REASON = f"a reason from {SET_REASONS[0]} to {SET_REASONS[-1]}"
+
+
+class LeafList(NamedTuple):
+    word: Token
+    leaves: List[Token]
+    # What stands after the last leaf.
+    end: Token
+
+
+class NameNumber(NamedTuple):
+    leaves: List[Token]
+    number: int
+
+
+class ProcessContents(NamedTuple):
+    leaves: List[Token]
+    process: int
+
+
+class Verdicts(NamedTuple):
+    derived: List[Token]
+    base: List[Token]
+    # None leaves the table as it is.
+    first: Optional[int]
+    second: Optional[int]
+
+
+Statement = Union[LeafList, NameNumber, ProcessContents, Verdicts]
+
+
+def read_statement(scanner) -> Statement:
+    start = scanner.token
+    statement = leaf_list(scanner, start) if scanner.skip("leaves") else about_leaves(scanner)
+    scanner.expect_end()
+    return statement
+
+
+def leaf_list(scanner, word):
+    scanner.expect(":")
+    leaves = read_leaves(scanner)
+    return LeafList(word, leaves, scanner.token)
+
+
+def about_leaves(scanner):
+    leaves = read_leaves(scanner)
+    if scanner.skip("|"):
+        base = read_leaves(scanner)
+        scanner.expect(":")
+        return Verdicts(leaves, base, *verdicts(scanner))
+    scanner.expect(":")
+    if scanner.skip("name"):
+        return NameNumber(leaves, scanner.number(MOST_NAME))
+    for process, word in enumerate(PROCESS_CONTENTS):
+        if scanner.skip(word):
+            return ProcessContents(leaves, process)
+    return scanner.fail()
+
+
+def read_leaves(scanner):
+    leaves = []
+    while True:
+        if leaf_kind(scanner.token.text) is None:
+            scanner.fail(A_LEAF)
+        leaves.append(scanner.take())
+        if not scanner.skip(","):
+            return leaves
+
+
+def verdicts(scanner):
+    """The first and the second table's verdict."""
+    if scanner.skip("first"):
+        first = verdict(scanner)
+        if not scanner.skip(","):
+            return first, None
+        scanner.expect("second")
+        return first, verdict(scanner)
+    if scanner.skip("second"):
+        return None, verdict(scanner)
+    both = verdict(scanner)
+    return both, both
+
+
+def verdict(scanner):
+    for word, number in VERDICT_WORDS.items():
+        if scanner.skip(word):
+            return number
+    number = as_number(scanner.token.text)
+    if number is None or not is_verdict(number):
+        scanner.fail(A_REASON)
+    scanner.take()
+    return number

@@ -1,0 +1,146 @@
+"""What the tests share: random sheets, papers written in many ways, and the
+marking program where it is there."""
+
+import random
+import sys
+import unittest
+
+import marker
+from notation import LETTERS, numbered, tree_text
+from printed import leaves_in_order, verdict_word
+from scanner import TOKEN
+from sheet import (
+    MOST_DEPTH, MOST_LEAVES, MOST_NAME, MOST_OCCURS, MOST_RECORDS, OK, PROCESS_CONTENTS,
+    SET_REASONS, UNDECIDED, Kind, Leaf, Sheet, Tree, usual_table,
+)
+
+HAS_MARKER = marker.program().is_file()
+needs_marker = unittest.skipUnless(HAS_MARKER, "the marking program is missing")
+if not HAS_MARKER:
+    print(f"{marker.program()} is missing: the tests that need the marking program are skipped "
+          "(rt check marker builds it, MARKER names another)", file=sys.stderr)
+
+NUMBERS = (0, 1, 1, 1, 2, 3, 10, 65535, 65536, 65537, MOST_OCCURS - 1, MOST_OCCURS)
+
+
+def random_sheet(seed, leaves=MOST_LEAVES, records=MOST_RECORDS, depth=MOST_DEPTH):
+    """An accepted sheet of at most so many leaves, records and so much depth;
+    each seed has its own."""
+    rng = random.Random(seed)
+    count = rng.choice([1, 1, 2, 3, rng.randint(1, min(8, leaves)), rng.randint(1, leaves)])
+    share = rng.choice([0, 0.2, 0.5, 1])
+    listed = [random_leaf(rng, share) for _ in range(min(count, leaves))]
+    derived, base = (
+        Grower(rng, listed, rng.choice([1, rng.randint(1, min(8, records)), records]), depth).tree()
+        for _ in range(2)
+    )
+    return Sheet(listed, random_table(rng, len(listed)), random_table(rng, len(listed)),
+                 derived, base)
+
+
+def random_leaf(rng, wildcards):
+    if rng.random() < wildcards:
+        return Leaf(Kind.WILDCARD, rng.randrange(len(PROCESS_CONTENTS)), 0)
+    name = rng.choice([0, 1, 2, 7, 263, MOST_NAME, rng.randint(0, MOST_NAME)])
+    return Leaf(Kind.ELEMENT, 0, name)
+
+
+def random_table(rng, count):
+    table = usual_table(count)
+    changed = rng.choice([0, 0, 0.1, 0.5, 1])
+    verdicts = [OK, OK, UNDECIDED, *rng.sample(SET_REASONS, rng.choice([1, len(SET_REASONS)]))]
+    return [
+        [rng.choice(verdicts) if rng.random() < changed else usual for usual in row]
+        for row in table
+    ]
+
+
+class Grower:
+    """Grows a tree of at most so many records."""
+
+    def __init__(self, rng, leaves, records, depth):
+        self.rng = rng
+        self.leaves = leaves
+        self.records = records
+        self.depth = depth
+
+    def tree(self, depth=1, in_all=False):
+        self.records -= 1
+        elements = [n for n, leaf in enumerate(self.leaves) if leaf.kind == Kind.ELEMENT]
+        if in_all:
+            return Tree(Kind.ELEMENT, self.rng.choice(elements), *self.pair(), [])
+        if self.rng.random() < 0.4:
+            number = self.rng.randrange(len(self.leaves))
+            return Tree(Kind(self.leaves[number].kind), number, *self.pair(), [])
+        kind = self.rng.choice([Kind.SEQUENCE, Kind.SEQUENCE, Kind.CHOICE, Kind.CHOICE, Kind.ALL])
+        pair = (self.rng.randint(0, 1), 1) if kind == Kind.ALL else self.pair()
+        items = []
+        wanted = self.rng.choice([0, 1, 2, 3, 4, 60])
+        allowed = depth < self.depth and (kind != Kind.ALL or elements)
+        while allowed and len(items) < wanted and self.records > 0:
+            items.append(self.tree(depth + 1, kind == Kind.ALL))
+        return Tree(kind, 0, *pair, items)
+
+    def pair(self):
+        if self.rng.random() < 0.4:
+            return 1, 1
+        minimum, maximum = sorted(self.rng.choices(NUMBERS, k=2))
+        return minimum, self.rng.choice([maximum, maximum, None])
+
+
+def random_paper(seed, sheet):
+    """One of the many texts that stand for the sheet: letters, grouping, order,
+    blanks and comments are free."""
+    rng = random.Random(seed)
+    names = random_names(rng, sheet.leaves)
+    lines = []
+    found = [names[n] for n in leaves_in_order(sheet.derived, sheet.base)]
+    if found != names or rng.random() < 0.3:
+        lines.append(f"leaves : {', '.join(names)}")
+    for name, leaf in zip(names, sheet.leaves):
+        process = PROCESS_CONTENTS[leaf.process]
+        lines.append(f"{name} : " + (process if leaf.kind else f"name {leaf.name}"))
+    for row, derived in enumerate(names):
+        lines += verdict_statements(rng, derived, names, sheet.first[row], sheet.second[row])
+    rng.shuffle(lines)
+    trees = f"{tree_text(sheet.derived, names)} | {tree_text(sheet.base, names)}"
+    lines = [spaced(rng, line) for line in [trees, *lines]]
+    for _ in range(rng.randint(0, 2)):
+        lines.insert(rng.randint(0, len(lines)), rng.choice(["", "  ", "# a | a : ok", "\t# é"]))
+    return rng.choice(["\n", "\r\n"]).join(lines)
+
+
+def random_names(rng, leaves):
+    letters = rng.sample(LETTERS, len(LETTERS))
+    elements = [numbered(letter, number) for number in (0, 1, 31) for letter in letters]
+    wildcards = [numbered("w", number) for number in rng.sample(range(100), 64)]
+    return [(wildcards if leaf.kind else elements).pop(0) for leaf in leaves]
+
+
+def verdict_statements(rng, derived, names, first, second):
+    """One row's verdicts: one by one, or those alike together."""
+    alike = {}
+    for base, pair in zip(names, zip(first, second)):
+        alike.setdefault(pair, []).append(base)
+    lines = []
+    for pair, bases in alike.items():
+        said = [verdict_word(v) if rng.random() < 0.8 else str(v) for v in pair]
+        together = [", ".join(bases)] if rng.random() < 0.5 else bases
+        for group in together:
+            if pair[0] == pair[1] and rng.random() < 0.8:
+                lines.append(f"{derived} | {group} : {said[0]}")
+            elif rng.random() < 0.5:
+                lines.append(f"{derived} | {group} : first {said[0]}, second {said[1]}")
+            else:
+                lines.append(f"{derived} | {group} : first {said[0]}")
+                lines.append(f"{derived} | {group} : second {said[1]}")
+    return lines
+
+
+def spaced(rng, line):
+    """The line with other blanks, and sometimes a comment."""
+    text = ""
+    for token in TOKEN.findall(line):
+        apart = text[-1:].isalnum() and token[0].isalnum()
+        text += rng.choice([" ", "  ", "\t"] if apart else ["", "", " "]) + token
+    return text + rng.choice(["", "", " ", " # S[a | : é"])

@@ -1,0 +1,39 @@
+"""What `tools/paper --help` says of papers."""
+
+DESCRIPTION = "Turns a paper in document 01's notation into an exam sheet and back."
+
+# tools/README.md has these lines too; a test compares them.
+GRAMMAR = """\
+DERIVED | BASE               the two trees, before all else
+leaves : LEAVES              every leaf, in the order of the leaf numbers
+LEAVES : name NUMBER         elements: the local name number, up to 65535
+LEAVES : PROCESS             wildcards: process contents skip, lax or strict
+LEAVES | LEAVES : VERDICTS   each of these as derived, each of those as base
+
+DERIVED, BASE   trees: a leaf; or S, C or A with its items, as S[a,C[b,w]] or
+                S[]; after a letter a pair may stand, as a(0,1) or S(2,*)[a]
+a pair          minimum and maximum, up to 4294967295 or * for unbounded;
+                no pair means (1,1)
+a leaf          a letter, or a letter and a number from 1: w, w1, w2 ... are
+                wildcards, all other small letters elements
+LEAVES          one leaf, or several with commas
+VERDICTS        a verdict for both tables; or first and a verdict; or second
+                and a verdict; or first VERDICT, second VERDICT
+a verdict       ok (or 0), undecided (or 1), or a reason from 140 to 152
+"""
+
+EPILOG = f"""\
+A paper has one statement to a line. # starts a comment, and blanks may stand
+between letters, numbers and signs.
+
+{GRAMMAR}
+Where nothing else is said, equal leaves are ok and others 140 in both tables,
+an element's name number is its place among the leaves (from 0), process
+contents are skip, and the leaves are those of the trees as they turn up.
+
+The mark is that of the marking program, target/bin/marker, which
+`rt check marker` builds; MARKER names another.
+
+Exit status: 0 fine; 1 wrong notation or a refused sheet; 2 bad usage, a file
+that can't be read or written, or no mark since the marking program is missing.
+"""
