@@ -1,0 +1,70 @@
+//! From a sheet's bytes straight to the particles and tables of the original,
+//! with no step between, as a user of the original would have to do it.
+
+use std::slice::ChunksExact;
+
+use common::sheet::{self, BASE, DERIVED, LEAF_BYTES, LEAVES, NAME, PROCESSING};
+use common::tree::{COUNT, KIND, Kind, LEAF, MARK, MAX, MIN, RECORD, number};
+use oracle::stubs::{CompiledSchema, ElementDef, Particle, ProcessContents, WildcardConstraint};
+
+/// The particles and the tables of an accepted sheet.
+pub fn particles(bytes: &[u8]) -> (Particle, Particle, CompiledSchema) {
+    let places = sheet::places(bytes[LEAVES], bytes[DERIVED], bytes[BASE]);
+    let leaves = &bytes[places.leaves];
+    let schema = CompiledSchema {
+        leaves: usize::from(bytes[LEAVES]),
+        first: bytes[places.first].to_vec(),
+        second: bytes[places.second].to_vec(),
+    };
+    let derived = particle(&mut bytes[places.derived].chunks_exact(RECORD), leaves);
+    let base = particle(&mut bytes[places.base].chunks_exact(RECORD), leaves);
+    (derived, base, schema)
+}
+
+fn particle(records: &mut ChunksExact<u8>, leaves: &[u8]) -> Particle {
+    let record = records.next().expect("a record");
+    let (min, max) = pair(record);
+    let items = 0..record[COUNT];
+    match Kind::EVERY[usize::from(record[KIND])] {
+        Kind::Element => Particle::Element(element(record, leaves)),
+        Kind::Wildcard => Particle::Wildcard(wildcard(record, leaves)),
+        Kind::Sequence => {
+            let items = items.map(|_| particle(records, leaves)).collect();
+            Particle::Sequence { min, max, items }
+        }
+        Kind::Choice => {
+            let items = items.map(|_| particle(records, leaves)).collect();
+            Particle::Choice { min, max, items }
+        }
+        Kind::All => {
+            let element = |_| element(records.next().expect("an element"), leaves);
+            Particle::All { min, elements: items.map(element).collect() }
+        }
+    }
+}
+
+fn pair(record: &[u8]) -> (u32, Option<u32>) {
+    (number(record, MIN), (record[MARK] == 0).then(|| number(record, MAX)))
+}
+
+fn leaf<'a>(record: &[u8], leaves: &'a [u8]) -> &'a [u8] {
+    let at = LEAF_BYTES * usize::from(record[LEAF]);
+    &leaves[at..at + LEAF_BYTES]
+}
+
+fn element(record: &[u8], leaves: &[u8]) -> ElementDef {
+    let leaf = leaf(record, leaves);
+    let (min_occurs, max_occurs) = pair(record);
+    let name = u16::from_le_bytes([leaf[NAME], leaf[NAME + 1]]).to_string();
+    ElementDef { name, min_occurs, max_occurs, leaf: record[LEAF] }
+}
+
+fn wildcard(record: &[u8], leaves: &[u8]) -> WildcardConstraint {
+    let process_contents = match leaf(record, leaves)[PROCESSING] {
+        0 => ProcessContents::Skip,
+        1 => ProcessContents::Lax,
+        _ => ProcessContents::Strict,
+    };
+    let (min_occurs, max_occurs) = pair(record);
+    WildcardConstraint { process_contents, min_occurs, max_occurs, leaf: record[LEAF] }
+}

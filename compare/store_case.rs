@@ -1,0 +1,73 @@
+//! One stored answer with what it answers, and its bytes as crates/replay reads
+//! them.
+
+/// An exported entry (crates/exports), by the number that stands for it.
+#[derive(Debug, Clone, Copy, PartialEq, Eq, PartialOrd, Ord, Hash)]
+pub enum Operation {
+    Mark = 1,
+    TotalMin = 2,
+    TotalMax = 3,
+    Emptiable = 4,
+    Tidy = 5,
+    Item = 6,
+}
+
+impl Operation {
+    pub const EVERY: [Operation; 6] = [
+        Operation::Mark,
+        Operation::TotalMin,
+        Operation::TotalMax,
+        Operation::Emptiable,
+        Operation::Tidy,
+        Operation::Item,
+    ];
+
+    pub fn name(self) -> &'static str {
+        match self {
+            Operation::Mark => "mark",
+            Operation::TotalMin => "total minimum",
+            Operation::TotalMax => "total maximum",
+            Operation::Emptiable => "emptiable",
+            Operation::Tidy => "tidy",
+            Operation::Item => "item",
+        }
+    }
+}
+
+#[derive(Debug, Clone, PartialEq, Eq, Hash)]
+pub struct Case {
+    pub operation: Operation,
+    /// The item that is asked for, 0 elsewhere.
+    pub k: u16,
+    /// The sheet or tree.
+    pub input: Vec<u8>,
+    /// The lent buffer, empty where the operation takes none.
+    pub before: Vec<u8>,
+    /// As long as `before`.
+    pub after: Vec<u8>,
+    /// In the numbers of crates/exports.
+    pub answer: u64,
+}
+
+impl Case {
+    /// An answer that is a number alone.
+    pub fn number(operation: Operation, input: &[u8], answer: u64) -> Case {
+        let input = input.to_vec();
+        Case { operation, k: 0, input, before: Vec::new(), after: Vec::new(), answer }
+    }
+
+    /// Operation (8 bits), k (16), length of the input (16) and of the buffer
+    /// (16), answer (64); the input, the buffer before and the buffer after.
+    pub fn write(&self, out: &mut Vec<u8>) {
+        let short = |length| u16::try_from(length).expect("a length of 16 bits").to_le_bytes();
+        assert!(self.before.len() == self.after.len());
+        out.push(self.operation as u8);
+        out.extend(self.k.to_le_bytes());
+        out.extend(short(self.input.len()));
+        out.extend(short(self.before.len()));
+        out.extend(self.answer.to_le_bytes());
+        out.extend(&self.input);
+        out.extend(&self.before);
+        out.extend(&self.after);
+    }
+}
