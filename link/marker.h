@@ -34,8 +34,8 @@
  * STACK AND TIME. There is no heap. No contract bounds the stack: functions
  * call themselves, as deep as a tree has records, and a stack that is too small
  * ends the process. The tests, the longest sheet among them, run on a stack of
- * 256 KiB. No contract bounds the time either: marking can take time
- * exponential in the base tree's depth, which is at most 12.
+ * 128 KiB. No contract bounds the time either; the longest markings that we
+ * know take less than a millisecond (docs/BENCHMARK.md, 'worst').
  */
 #ifndef MARKER_H
 #define MARKER_H
