@@ -207,9 +207,11 @@ fn compare_tidied(
         return Ok(());
     }
     let what = format!("tidied into a buffer of {room} bytes");
-    same(&format!("{what}: the answer"), answer, answered, |answer| match answer.checked_sub(BEYOND) {
-        None => format!("{answer} records"),
-        Some(number) => format!("refused {number}"),
+    same(&format!("{what}: the answer"), answer, answered, |answer| {
+        match answer.checked_sub(BEYOND) {
+            None => format!("{answer} records"),
+            Some(number) => format!("refused {number}"),
+        }
     })?;
     same_bytes(&what, &expected, &got, room, bytes.len())
 }

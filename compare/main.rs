@@ -10,7 +10,7 @@ mod small;
 mod tally;
 
 use common::random::Rng;
-use common::tree::{RECORD, Tree};
+use common::tree::{MOST_RECORDS, RECORD, Tree};
 use common::{damage, grow, refusals};
 
 use check::Difference;
@@ -22,6 +22,8 @@ struct Options {
     count: u64,
     /// Damaged strings.
     damaged: u64,
+    /// Records that a random tree may have.
+    records: u64,
 }
 
 /// Where a difference turned up: the run and its case, and the byte string.
@@ -45,13 +47,15 @@ fn main() {
 }
 
 fn options() -> Options {
-    let mut options = Options { seed: 1, count: 200_000, damaged: 150_000 };
+    let records = MOST_RECORDS as u64;
+    let mut options = Options { seed: 1, count: 200_000, damaged: 150_000, records };
     let mut words = std::env::args().skip(1);
     while let Some(word) = words.next() {
         let field = match word.as_str() {
             "--seed" => &mut options.seed,
             "--count" => &mut options.count,
             "--damaged" => &mut options.damaged,
+            "--records" => &mut options.records,
             _ => usage(&format!("unknown argument {word}")),
         };
         match words.next().map(|value| value.parse()) {
@@ -59,11 +63,16 @@ fn options() -> Options {
             _ => usage(&format!("{word} wants a number")),
         }
     }
+    if options.records == 0 {
+        usage("a tree has at least one record");
+    }
     options
 }
 
 fn usage(message: &str) -> ! {
-    eprintln!("{message}\nusage: compare/run trees [--seed S] [--count N] [--damaged N]");
+    eprintln!(
+        "{message}\nusage: compare/run trees [--seed S] [--count N] [--damaged N] [--records R]"
+    );
     std::process::exit(2);
 }
 
@@ -106,10 +115,20 @@ fn small_trees(options: &Options, tally: &mut Tally) -> Result<(), Found> {
     Ok(())
 }
 
+/// A tree that has no more records than asked for.
+fn random_tree(options: &Options, rng: &mut Rng) -> Tree {
+    loop {
+        let tree = grow::tree(rng);
+        if tree.records() as u64 <= options.records {
+            return tree;
+        }
+    }
+}
+
 fn random_trees(options: &Options, tally: &mut Tally) -> Result<(), Found> {
     for case in 0..options.count {
         let mut rng = Rng::new(options.seed, case);
-        let tree = grow::tree(&mut rng);
+        let tree = random_tree(options, &mut rng);
         let bytes = tree.encode();
         tally.random += 1;
         accepted(&bytes);

@@ -21,7 +21,9 @@ mod spoil;
 mod tiny;
 
 use common::random::Rng;
+use common::sheet::Sheet;
 use common::stated::{self, EXAMPLES, SETTLED};
+use common::tree::MOST_RECORDS;
 
 use entries::REFUSED;
 use sheet_check::Difference;
@@ -33,6 +35,8 @@ const DAMAGED: u64 = 300_000;
 /// So many random sheets are small, so that a difference shows on a small one
 /// if it can.
 const SMALL: u64 = 250_000;
+/// Below so many records, all are small: others would be drawn in vain.
+const FEW: u64 = 24;
 
 struct Options {
     seed: u64,
@@ -40,6 +44,8 @@ struct Options {
     count: u64,
     /// Damaged sheets.
     damaged: u64,
+    /// Records that a tree of a random sheet may have.
+    records: u64,
 }
 
 /// Where a difference turned up: the run and its case, and the sheet.
@@ -66,20 +72,23 @@ fn main() {
 /// At the default size or above it, every mark and refusal must have come up.
 fn complete(options: &Options, tally: &Tally) {
     let marks = tally.random_answers.missing_marks();
-    assert!(options.count < RANDOM || marks.is_empty(), "marks that never came up: {marks:?}");
+    let few = options.count < RANDOM || options.records < MOST_RECORDS as u64;
+    assert!(few || marks.is_empty(), "marks that never came up: {marks:?}");
     let refusals = tally.damaged_answers.missing_refusals();
     let few = options.damaged < DAMAGED;
     assert!(few || refusals.is_empty(), "refusals that never came up: {refusals:?}");
 }
 
 fn options() -> Options {
-    let mut options = Options { seed: 1, count: RANDOM, damaged: DAMAGED };
+    let records = MOST_RECORDS as u64;
+    let mut options = Options { seed: 1, count: RANDOM, damaged: DAMAGED, records };
     let mut words = std::env::args().skip(1);
     while let Some(word) = words.next() {
         let field = match word.as_str() {
             "--seed" => &mut options.seed,
             "--count" => &mut options.count,
             "--damaged" => &mut options.damaged,
+            "--records" => &mut options.records,
             _ => usage(&format!("unknown argument {word}")),
         };
         match words.next().map(|value| value.parse()) {
@@ -87,11 +96,16 @@ fn options() -> Options {
             _ => usage(&format!("{word} wants a number")),
         }
     }
+    if options.records == 0 {
+        usage("a tree has at least one record");
+    }
     options
 }
 
 fn usage(message: &str) -> ! {
-    eprintln!("{message}\nusage: compare/run sheets [--seed S] [--count N] [--damaged N]");
+    eprintln!(
+        "{message}\nusage: compare/run sheets [--seed S] [--count N] [--damaged N] [--records R]"
+    );
     std::process::exit(2);
 }
 
@@ -145,11 +159,22 @@ fn accepted(bytes: &[u8]) -> u32 {
     expected
 }
 
+/// A sheet whose trees have no more records than asked for.
+fn random_sheet(options: &Options, rng: &mut Rng, case: u64) -> Sheet {
+    let size = if case < SMALL || options.records < FEW { Size::Small } else { Size::Any };
+    loop {
+        let sheet = sheet_grow::sheet(rng, size);
+        let records = sheet.derived.records().max(sheet.base.records());
+        if records as u64 <= options.records {
+            return sheet;
+        }
+    }
+}
+
 fn random_sheets(options: &Options, tally: &mut Tally) -> Result<(), Found> {
     for case in 0..options.count {
         let mut rng = Rng::new(options.seed, case);
-        let size = if case < SMALL { Size::Small } else { Size::Any };
-        let bytes = sheet_grow::sheet(&mut rng, size).encode();
+        let bytes = random_sheet(options, &mut rng, case).encode();
         let expected = accepted(&bytes);
         tally.random += 1;
         tally.random_answers.count(expected);
