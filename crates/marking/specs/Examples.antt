@@ -12,7 +12,7 @@ use Rattle.sheet.specs.declared.bodies.Leaf.{Leaf}
 use Rattle.sheet.specs.Fits.{Paper, encodeSheet}
 use Rattle.marking.specs.Answer.{markSheet}
 
--- the sheet that document 01 prints, of 38 bytes: a | a
+-- the sheet that document 01 prints, of 38 bytes: a | a(0,1)
 abbrev pub printedSheet : List ℕ
 printedSheet =
     1 ∷ 1 ∷ 1 ∷ 0 ∷ 38 ∷ 0 ∷ 0 ∷ 0

@@ -22,7 +22,7 @@ use verdicts::Verdict;
 // The length of the longest tree in bytes.
 const CAPACITY: usize = particle::RECORD_SIZE * particle::MAX_RECORDS;
 
-// The length of a short tree in bytes: clearing long buffers takes longer than marking it.
+// The length of a short tree in bytes: for short trees no long buffers are cleared.
 const FEW: usize = 384;
 
 // What marking a sheet is answered by.

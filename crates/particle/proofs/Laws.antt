@@ -82,3 +82,11 @@ module _ {n : ℕ} {t : List ℕ} (w : Row (suc n) t) where
 pub row-one : {t : List ℕ} → Row 1 t → row 1 t ≡ single (tree t)
 unfolding takeI
 row-one w = row-is w
+
+-- the records of a row that is not empty: those of the first tree and those of the later ones
+pub row-sizes : {n : ℕ} {t : List ℕ} → Row n t → 0 < n → sizeI (row n t) ≡ sizeI (row 1 t) + sizeI (row (n - 1) (laterPart t))
+unfolding sizeI
+row-sizes {n} {t} w h =
+    let e : n ≡ suc (n - 1) = omega arith in
+    let some : Row (suc (n - 1)) t = row-le (omega arith) w in
+    rw (ap (λ (k : ℕ). row k t) e, row-is some, row-one (row-le h w)) (omega arith)

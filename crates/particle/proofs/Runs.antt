@@ -10,7 +10,7 @@ use Rattle.particle.specs.Tree.{takeI, sizeI, build, records, decode}
 use Rattle.particle.specs.Rows.{Row, row, runSize, itemsPart, laterPart}
 use Rattle.particle.specs.Runs.{Measured, Run}
 use Rattle.particle.proofs.Records.{records-cons, records-drop}
-use Rattle.particle.proofs.Laws.{row-le, row-is, row-one, run-is, run-within, some-bytes, items-row, later-row}
+use Rattle.particle.proofs.Laws.{row-le, row-sizes, run-is, run-within, some-bytes, items-row, later-row}
 
 measured-drop : (k : ℕ) (rs : List Record) → Measured rs → Measured (drop k rs)
 unfolding Measured
@@ -50,13 +50,9 @@ row-start w = record { trees = w; unread = refl }
 
 module _ {n : ℕ} {t rest : List ℕ} {left : ℕ} (a : RowLeft n t rest left) where
   pub row-next : {after : List ℕ} → 0 < left → after ≡ laterPart rest → RowLeft n t after (left - 1)
-  unfolding sizeI
   row-next h p =
       let w : Run (suc (left - 1)) rest = run-le (omega arith) (a .trees) in
-      let k : left ≡ suc (left - 1) = omega arith in
-      let one : Row 1 rest = row-le (omega arith) (w .row) in
-      let s : sizeI (row left rest) ≡ sizeI (row 1 rest) + sizeI (row (left - 1) (laterPart rest)) = rw (ap (λ (j : ℕ). row j rest) k, row-is (w .row), row-one one) (omega arith) in
-      rw p (record { trees = later-run w; unread = omega (arith, a .unread, s, run-is rest, run-within rest, length-drop (runSize rest) rest) })
+      rw p (record { trees = later-run w; unread = omega (arith, a .unread, row-sizes (a .trees .row) h, run-is rest, run-within rest, length-drop (runSize rest) rest) })
 
   pub row-done : left ≤ 0 → length rest + recordSize * sizeI (row n t) ≡ length t
   unfolding takeI sizeI

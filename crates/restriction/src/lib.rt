@@ -31,7 +31,7 @@ use verdicts::Reason;
 use verdicts::Verdict;
 
 // The first tree of d against the first of b. With once, an element of d counts with the pair (1,1); with any, a wildcard of b with (0, unbounded).
-// Most pairs are two elements that the first table keeps apart: they take no further call.
+// Two elements that the first table keeps apart take no further call.
 pub fn restrict(
     d: &[u8],
     once: bool,

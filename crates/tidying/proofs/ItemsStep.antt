@@ -11,7 +11,7 @@ use Rattle.particle.specs.Tree.{Head, Items, none, item, single, _then_, takeI,
 use Rattle.particle.specs.Rows.{Row, row, runSize, itemsPart, laterPart}
 use Rattle.particle.specs.Encode.{recordOf, Faithful}
 use Rattle.particle.proofs.Trees.{countI-le}
-use Rattle.particle.proofs.Laws.{part-is, row-le, row-is, row-one, run-is, run-within, items-row, items-shorter, later-row, later-shorter}
+use Rattle.particle.proofs.Laws.{part-is, row-le, row-is, row-one, row-sizes, run-is, run-within, items-row, items-shorter, later-row, later-shorter}
 use Rattle.particle.proofs.Folds.{row-some}
 use Rattle.particle.proofs.EncodeParts.{size-then, count-then, items-faithful, later-faithful}
 use Rattle.particle.proofs.RoundTrip.{then-none}
@@ -76,8 +76,7 @@ module _ {t before : List ℕ} {at : ℕ} (q : Room t 1 before at) {g : Record} 
         ap (λ (k : ℕ). row k rest) z ∙ row-is more
 
     sizes : sizeI (row left rest) ≡ sizeI (row 1 rest) + sizeI (row (left - 1) (laterPart rest))
-    unfolding sizeI
-    sizes = rw (split, row-one (row-le (omega arith) more)) (omega arith)
+    sizes = row-sizes (a .trees) some
 
     pub to-tree : Room rest 1 out end
     to-tree = record { trees = row-le (omega arith) more; faithful = a .faithful; room = omega (arith, a .room, sizes); small = omega (arith, q .small, a .same) }
