@@ -2,6 +2,7 @@ pub mod Tests
 pub mod Contents
 pub mod ContentsBytes
 pub mod Loops
+pub mod Ranks
 pub mod Refusing
 pub mod LeafBytes
 pub mod Fitting

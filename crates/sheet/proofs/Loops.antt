@@ -8,7 +8,8 @@ use native.Mathlib.Omega.{arith}
 use lib.ListN.{length, take, drop, set, getD, length-set}
 use lib.Seq.{drop-cons, drop-drop, drop-length, take-suc-set, append-snoc}
 use Rattle.verdicts.specs.Paper.{leafSize}
-use Rattle.sheet.specs.Layout.{maxLeaves, leafAt, leavesIn}
+use Rattle.sheet.specs.declared.bodies.Leaf.{Leaf}
+use Rattle.sheet.specs.Layout.{leafAt, leavesIn}
 use Rattle.sheet.specs.Refused.{every, leafOk, verdictOk, kindsOf}
 
 -- A test of each element -------------------------------------------------------
@@ -48,51 +49,41 @@ all-leaves s n =
     let q : n - 0 ≡ n = omega arith in
     rw q
 
--- of the first i of the n leaves ok says whether they are in order, and with the others it decides
-pub record LeavesLeft (s : List ℕ) (n : ℕ) (ok : Bool) (i : ℕ) : Type 0 where
-  pub within : i ≤ n
-  pub rest : every leafOk (leavesIn n s) ≡ (ok && every leafOk (leavesIn (n - i) (after s i)))
-
-module _ (s : List ℕ) (n : ℕ) where
-  pub leaves-start : LeavesLeft s n true 0
-  leaves-start = record { within = omega arith; rest = ap (every leafOk) (sym (all-leaves s n)) }
-
-  module _ (ok : Bool) (i : ℕ) (v : LeavesLeft s n ok i) where
-    pub leaf-next : i < n → (found : Bool) → found ≡ leafOk (leafAt (after s i)) → LeavesLeft s n (ok && found) (i + 1)
-    leaf-next h found e = record { within = omega arith; rest = every-next leafOk _ ok _ (v .rest) _ _ (leaves-turn s n i h) found e }
-
-    pub leaves-done : n ≤ i → ok ≡ every leafOk (leavesIn n s)
-    leaves-done h = every-done leafOk _ _ _ (v .rest) (leaves-none s n i h)
-
 put : (out : List ℕ) (i k : ℕ) (xs : List ℕ) → i < length out → take (i + 1) (set out i k) ++ xs ≡ take i out ++ (k ∷ xs)
 put out i k xs b = rw (add-one i, take-suc-set out i k b) (append-snoc (take i out) k xs)
 
--- the kinds of i of the n leaves are put down in out
-pub record KindsLeft (s : List ℕ) (n : ℕ) (out : List ℕ) (i : ℕ) : Type 0 where
+-- of the first i of the n leaves ok says whether they are in order, and with the others it decides; their kinds are put down in out
+pub record LeavesLeft (s : List ℕ) (n size : ℕ) (out : List ℕ) (ok : Bool) (i : ℕ) : Type 0 where
   pub within : i ≤ n
-  pub size : length out ≡ maxLeaves
-  pub rest : take i out ++ kindsOf (leavesIn (n - i) (after s i)) ≡ kindsOf (leavesIn n s)
+  pub same-size : length out ≡ size
+  pub rest : every leafOk (leavesIn n s) ≡ (ok && every leafOk (leavesIn (n - i) (after s i)))
+  pub kinds : take i out ++ kindsOf (leavesIn (n - i) (after s i)) ≡ kindsOf (leavesIn n s)
 
 module _ (s : List ℕ) (n : ℕ) (out : List ℕ) where
-  pub kinds-start : length out ≡ maxLeaves → KindsLeft s n out 0
-  kinds-start l = record { within = omega arith; size = l; rest = ap kindsOf (all-leaves s n) }
+  pub leaves-start : LeavesLeft s n (length out) out true 0
+  leaves-start = record { within = omega arith; same-size = refl; rest = ap (every leafOk) (sym (all-leaves s n)); kinds = ap kindsOf (all-leaves s n) }
 
-  module _ (i : ℕ) (v : KindsLeft s n out i) where
-    pub kind-next : n ≤ maxLeaves → i < n → (k : ℕ) → k ≡ leafAt (after s i) .kind → KindsLeft s n (set out i k) (i + 1)
+  module _ {size : ℕ} (ok : Bool) (i : ℕ) (v : LeavesLeft s n size out ok i) where
+    pub leaf-next : n ≤ size → i < n → (l : Leaf) → l ≡ leafAt (after s i) → (found : Bool) → found ≡ leafOk l → LeavesLeft s n size (set out i (l .kind)) (ok && found) (i + 1)
     unfolding kindsOf
-    kind-next m h k e =
-        let b : i < length out = omega (arith, v .size) in
+    leaf-next m h l e found f =
+        let b : i < length out = omega (arith, v .same-size) in
         record {
           within = omega arith;
-          size = length-set out i k ∙ v .size;
-          rest = put out i k _ b ∙ rw e (rw (leaves-turn s n i h) at (v .rest));
+          same-size = length-set out i (l .kind) ∙ v .same-size;
+          rest = every-next leafOk _ ok _ (v .rest) _ _ (leaves-turn s n i h) found (f ∙ ap leafOk e);
+          kinds = put out i (l .kind) _ b ∙ rw e (rw (leaves-turn s n i h) at (v .kinds));
         }
 
-    pub kinds-done : n ≤ i → take n out ≡ kindsOf (leavesIn n s)
-    unfolding kindsOf
-    kinds-done h =
-        let q : n ≡ i = omega (arith, v .within) in
-        ap (λ (k : ℕ). take k out) q ∙ (sym (append-nil (take i out)) ∙ (rw (leaves-none s n i h) at (v .rest)))
+    module _ (h : n ≤ i) where
+      pub leaves-done : ok ≡ every leafOk (leavesIn n s)
+      leaves-done = every-done leafOk _ _ _ (v .rest) (leaves-none s n i h)
+
+      pub kinds-done : take n out ≡ kindsOf (leavesIn n s)
+      unfolding kindsOf
+      kinds-done =
+          let q : n ≡ i = omega (arith, v .within) in
+          ap (λ (k : ℕ). take k out) q ∙ (sym (append-nil (take i out)) ∙ (rw (leaves-none s n i h) at (v .kinds)))
 
 -- Verdicts ---------------------------------------------------------------------
 

@@ -1,13 +1,15 @@
 // The leaves and the tables: their check, and the leaves' kinds.
 ghost use mathlib.Core.Path.{_≡_};
-ghost use Prim.Native.Nat.{_+_, _*_, _≤_};
+ghost use Prim.Native.Nat.{_+_, _*_, _≤_, min, max};
+ghost use lib.Dec.{leb};
 ghost use lib.ListN.{length, take, drop};
 ghost use Rattle.verdicts.specs.Paper.{leafSize};
-ghost use Rattle.sheet.specs.Layout.{maxLeaves, leafAt, leavesIn};
-ghost use Rattle.sheet.specs.Refused.{leafOk, leavesOk, verdictOk, verdictsOk, kindsOf};
+ghost use Rattle.sheet.specs.Layout.{leafAt, leavesIn};
+ghost use Rattle.sheet.specs.Refused.{inRange, leafOk, leavesOk, verdictOk, verdictsOk, kindsOf};
 use crate::layout::LEAF_SIZE;
-use crate::layout::MAX_LEAVES;
-use crate::layout::in_range;
+
+// The rank of a verdict is at most this.
+const LAST_RANK: u8 = 12;
 
 // One leaf, taken apart: kind, process contents, local name number.
 pub struct Leaf {
@@ -38,51 +40,65 @@ fn leaf_ok(l: Leaf) -> bool
     element | wildcard
 }
 
-// Whether each of the first n leaves is in order.
-pub fn leaves_ok(leaves: &[u8], n: usize) -> bool
+// Whether each of the first n leaves is in order; their kinds are put down at the start of out.
+pub fn read_leaves(leaves: &[u8], n: usize, out: &mut [u8]) -> bool
     requires { ⌜ leafSize * n ≤ length (now leaves) ⌝ }
-    ensures { λ r. ⌜ r ≡ leavesOk (leavesIn n (now (leaves .entry))) ⌝ }
+    requires { ⌜ n ≤ length (now out) ⌝ }
+    ensures { λ r. ⌜ (r ≡ leavesOk (leavesIn n (now (leaves .entry)))) × (take n (now (out .exit)) ≡ kindsOf (leavesIn n (now (leaves .entry)))) ⌝ }
 {
     let mut ok = true;
-    let mut i: usize = 0;
-    while i < n {
-        ok &= leaf_ok(leaf_at(leaves, i));
-        i += 1;
-    }
-    ok
-}
-
-// The kinds of the first n leaves, at the start of the array.
-pub fn kinds(leaves: &[u8], n: usize) -> [u8; MAX_LEAVES]
-    requires { ⌜ leafSize * n ≤ length (now leaves) ⌝ }
-    requires { ⌜ n ≤ maxLeaves ⌝ }
-    ensures { λ r. ⌜ take n r ≡ kindsOf (leavesIn n (now (leaves .entry))) ⌝ }
-{
-    let mut out = [0; MAX_LEAVES];
     let mut i: usize = 0;
     while i < n {
         let l = leaf_at(leaves, i);
         out[i] = l.kind;
-        i += 1;
-    }
-    out
-}
-
-fn verdict_ok(v: u8) -> bool
-    ensures { λ r. ⌜ r ≡ verdictOk v ⌝ }
-{
-    (v <= 1) | in_range(v as usize, 140, 152)
-}
-
-// Whether each verdict of the tables is in order. The loop does not end at a fault, so that many bytes can be tested at once.
-pub fn verdicts_ok(tables: &[u8]) -> bool
-    ensures { λ r. ⌜ r ≡ verdictsOk (now (tables .entry)) ⌝ }
-{
-    let mut ok = true;
-    let mut i: usize = 0;
-    while i < tables.len() {
-        ok &= verdict_ok(tables[i]);
+        ok &= leaf_ok(l);
         i += 1;
     }
     ok
+}
+
+fn lesser(a: u8, b: u8) -> u8
+    ensures { λ r. ⌜ r ≡ min a b ⌝ }
+{
+    if a < b { a } else { b }
+}
+
+fn greater(a: u8, b: u8) -> u8
+    ensures { λ r. ⌜ r ≡ max a b ⌝ }
+{
+    if a < b { b } else { a }
+}
+
+// At most LAST_RANK just for 0 and 1.
+fn low_rank(v: u8) -> u8
+    ensures { λ r. ⌜ leb r 12 ≡ leb v 1 ⌝ }
+{
+    if v <= 244 { v + 11 } else { 255 }
+}
+
+// At most LAST_RANK just for 140 to 152: v counted from 140 on, and from 0 on after 255.
+fn high_rank(v: u8) -> u8
+    ensures { λ r. ⌜ leb r 12 ≡ inRange 140 152 v ⌝ }
+{
+    if v < 140 { v + 116 } else { v - 140 }
+}
+
+// At most LAST_RANK just for a verdict.
+fn rank(v: u8) -> u8
+    ensures { λ r. ⌜ leb r 12 ≡ verdictOk v ⌝ }
+{
+    lesser(low_rank(v), high_rank(v))
+}
+
+// Whether each verdict of the tables is in order. The largest rank decides: a rank takes fewer steps than a test, and many are taken at once.
+pub fn verdicts_ok(tables: &[u8]) -> bool
+    ensures { λ r. ⌜ r ≡ verdictsOk (now (tables .entry)) ⌝ }
+{
+    let mut most: u8 = 0;
+    let mut i: usize = 0;
+    while i < tables.len() {
+        most = greater(most, rank(tables[i]));
+        i += 1;
+    }
+    most <= LAST_RANK
 }

@@ -44,13 +44,12 @@ pub fn check(s: &[u8]) -> SheetChecked
         return SheetChecked::Refused(Refusal::Contents);
     }
     let n = leaf_count(s) as usize;
-    let leaves = layout::leaves(s);
-    if !bodies::leaves_ok(leaves, n) {
+    let mut kinds = [0; layout::MAX_LEAVES];
+    if !bodies::read_leaves(layout::leaves(s), n, &mut kinds) {
         return SheetChecked::Refused(Refusal::Leaf);
     }
     if !bodies::verdicts_ok(tables(s)) {
         return SheetChecked::Refused(Refusal::Verdict);
     }
-    let kinds = bodies::kinds(leaves, n);
     check_trees(s, &kinds[..n])
 }

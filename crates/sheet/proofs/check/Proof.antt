@@ -47,56 +47,60 @@ enough c = rw (c .leaves .ensures, c .before .leaf-count .ensures) (le-of-eq (sy
 same : (c : tie.After-leaves) → leavesIn (c .before .leaf-count .result) (c .leaves .result .now) ≡ sheetLeaves (c .before .before .before .before .before .args .s .now)
 same c = rw (c .leaves .ensures, c .before .leaf-count .ensures)
 
-leaves-ok-requires : tie.Need-leaves-ok-requires
-leaves-ok-requires c κs = enough c
+slice-aggregate-read-leaves : tie.Need-slice-aggregate-read-leaves
+slice-aggregate-read-leaves c = search needs
 
-leaves : (c : tie.After-leaves-ok) → c .leaves-ok .result ≡ leavesOk (sheetLeaves (c .before .before .before .before .before .before .args .s .now))
-leaves c = c .leaves-ok .ensures ∙ ap leavesOk (same (c .before))
+read-leaves-requires : tie.Need-read-leaves-requires
+read-leaves-requires c κs = (enough (c .before), few (c .before))
+
+leaves : (c : tie.After-read-leaves) → c .read-leaves .result ≡ leavesOk (sheetLeaves (c .before .before .before .before .before .before .before .args .s .now))
+leaves c = c .read-leaves .ensures .0 ∙ ap leavesOk (same (c .before .before))
+
+-- the kinds that it put down, one for each leaf
+kinds : (c : tie.After-read-leaves) → take (c .before .before .before .leaf-count .result) (c .read-leaves .last .1 .1 .0) ≡ kindsOf (sheetLeaves (c .before .before .before .before .before .before .before .args .s .now))
+kinds c = c .read-leaves .ensures .1 ∙ ap kindsOf (same (c .before .before))
+
+each : (c : tie.After-read-leaves) → length (take (c .before .before .before .leaf-count .result) (c .read-leaves .last .1 .1 .0)) ≡ c .before .before .before .leaf-count .result
+each c = ap length (c .read-leaves .ensures .1) ∙ (length-kinds _ ∙ length-leavesIn _ _)
 
 returns-2 : tie.Need-returns-2
-returns-2 c = leaf-refused _ (sound (c .before .before .before .before)) (failed (leaves (c .before)) (c .if2 .taken))
+returns-2 c = leaf-refused _ (sound (c .before .before .before .before .before .before)) (failed (leaves (c .before .before)) (c .if2 .taken))
 
 tables-requires : tie.Need-tables-requires
-tables-requires c κs = sound (c .before .before .before .before)
+tables-requires c κs = sound (c .before .before .before .before .before .before)
 
 verdicts-ok-requires : tie.Need-verdicts-ok-requires
 verdicts-ok-requires c κs = search needs
 
 -- past the leaves
-in-order : (c : tie.Else2) → leavesOk (sheetLeaves (c .before .before .before .before .before .before .before .args .s .now)) ≡ true
-in-order c = passed (leaves (c .before)) (c .if2 .left)
+in-order : (c : tie.Else2) → leavesOk (sheetLeaves (c .before .before .before .before .before .before .before .before .before .args .s .now)) ≡ true
+in-order c = passed (leaves (c .before .before)) (c .if2 .left)
 
-verdicts : (c : tie.After-verdicts-ok) → c .verdicts-ok .result ≡ verdictsOk (tablesPart (c .before .before .before .before .before .before .before .before .before .args .s .now))
+verdicts : (c : tie.After-verdicts-ok) → c .verdicts-ok .result ≡ verdictsOk (tablesPart (c .before .before .before .before .before .before .before .before .before .before .before .args .s .now))
 verdicts c = c .verdicts-ok .ensures ∙ ap verdictsOk (c .before .tables .ensures)
 
 returns-3 : tie.Need-returns-3
-returns-3 c = verdict-refused _ (sound (c .before .before .before .before .before .before .before)) (in-order (c .before .before .before)) (failed (verdicts (c .before)) (c .if3 .taken))
-
-kinds-requires : tie.Need-kinds-requires
-kinds-requires c κs = (enough (c .before .before .before .before .before), few (c .before .before .before .before .before))
-
--- a kind for each leaf
-each : (c : tie.After-kinds) → length (take (c .before .before .before .before .before .before .before .leaf-count .result) (c .kinds .result)) ≡ c .before .before .before .before .before .before .before .leaf-count .result
-each c = ap length (c .kinds .ensures) ∙ (length-kinds _ ∙ length-leavesIn _ _)
+returns-3 c = verdict-refused _ (sound (c .before .before .before .before .before .before .before .before .before)) (in-order (c .before .before .before)) (failed (verdicts (c .before)) (c .if3 .taken))
 
 array-share-prefix-kinds : tie.Need-array-share-prefix-kinds
-array-share-prefix-kinds c = omega (arith, each c, length-take (c .before .before .before .before .before .before .before .leaf-count .result) (c .kinds .result))
+array-share-prefix-kinds c =
+    let r = c .before .before .before .before .before in
+    omega (arith, each r, length-take (r .before .before .before .leaf-count .result) (r .read-leaves .last .1 .1 .0))
 
 slice-aggregate-check-trees : tie.Need-slice-aggregate-check-trees
-slice-aggregate-check-trees c = sym (each (c .before))
+slice-aggregate-check-trees c = sym (each (c .before .before .before .before .before .before))
 
 check-trees-requires : tie.Need-check-trees-requires
-check-trees-requires c κs = sound (c .before .before .before .before .before .before .before .before .before)
+check-trees-requires c κs = sound (c .before .before .before .before .before .before .before .before .before .before)
 
 returns-4 : tie.Need-returns-4
 returns-4 c =
-    let k = c .before .before in
-    let l = k .before .before .before .before .before .before in
-    let s = l .before .before .before .before .before .args .s .now in
-    let v = passed (verdicts (k .before .before)) (k .before .if3 .left) in
+    let k = c .before .before .before .before .before in
+    let r = k .before .before in
+    let s = r .before .before .before .before .before .before .before .args .s .now in
     c .check-trees .ensures
-    ∙ (ap (λ (kinds : List ℕ). treesRefusal (listed kinds) s) (k .kinds .ensures ∙ ap kindsOf (same l))
-    ∙ trees-decide s (sound (l .before .before)) (in-order (k .before .before .before .before)) v)
+    ∙ (ap (λ (listing : List ℕ). treesRefusal (listed listing) s) (kinds r)
+    ∙ trees-decide s (sound (r .before .before .before .before)) (in-order k) (passed (verdicts (c .before .before .before)) (c .before .before .if3 .left)))
 
 pub check-spec : {M : Type 1} → statement M
 check-spec =
@@ -107,12 +111,12 @@ check-spec =
     leaf-count-requires
     cast-n
     leaves-requires
-    leaves-ok-requires
+    slice-aggregate-read-leaves
+    read-leaves-requires
     returns-2
     tables-requires
     verdicts-ok-requires
     returns-3
-    kinds-requires
     array-share-prefix-kinds
     slice-aggregate-check-trees
     check-trees-requires

@@ -1,26 +1,31 @@
 -- `bodies::verdicts_ok` meets its contract. Assumes nothing.
 use Prim.Native.Nat.{_-_}
 use native.Mathlib.Omega.{arith}
+use lib.Dec.{leb}
 use lib.ListN.{length}
 use borrow.Author.Needs.{needs}
 use Rattle.sheet.proofs.Loops.{VerdictsLeft, verdicts-start, verdict-next, verdicts-done}
+use Rattle.sheet.proofs.Ranks.{leb-max}
 use Rattle.sheet.proofs.bodies.verdicts_ok.Statement.{statement}
 use Rattle.sheet.proofs.bodies.verdicts_ok.Tie as tie
 
 abbrev Inv-loop : tie.InvT-loop
-Inv-loop tables ok₀ i₀ ok i = VerdictsLeft tables ok i
+Inv-loop tables most₀ i₀ most i = VerdictsLeft tables (leb most 12) i
 
 abbrev μ-loop : tie.MeasureT-loop
-μ-loop tables ok₀ i₀ ok i = length tables - i
+μ-loop tables most₀ i₀ most i = length tables - i
 
 loop-holds : tie.Need-loop-holds Inv-loop μ-loop
 loop-holds c = verdicts-start _
 
-shared-slice-read-verdict-ok : tie.Need-shared-slice-read-verdict-ok Inv-loop μ-loop
-shared-slice-read-verdict-ok c = omega arith
+shared-slice-read-rank : tie.Need-shared-slice-read-rank Inv-loop μ-loop
+shared-slice-read-rank c = omega arith
 
-verdict-ok-requires : tie.Need-verdict-ok-requires Inv-loop μ-loop
-verdict-ok-requires c κs = search needs
+rank-requires : tie.Need-rank-requires Inv-loop μ-loop
+rank-requires c κs = search needs
+
+greater-requires : tie.Need-greater-requires Inv-loop μ-loop
+greater-requires c κs = search needs
 
 add-i : tie.Need-add-i Inv-loop μ-loop
 add-i c = omega arith
@@ -29,7 +34,9 @@ loop-less : tie.Need-loop-less Inv-loop μ-loop
 loop-less c = omega arith
 
 loop-again : tie.Need-loop-again Inv-loop μ-loop
-loop-again c = verdict-next _ _ _ (c .before .before .before .loop .inv) (c .before .before .loop-test .taken) _ (c .verdict-ok .ensures)
+loop-again c =
+    let most = c .before .before .before .before .loop .most in
+    rw (c .greater .ensures, leb-max most (c .before .rank .result) 12) (verdict-next _ _ _ (c .before .before .before .before .loop .inv) (c .before .before .before .loop-test .taken) _ (c .before .rank .ensures))
 
 returns : tie.Need-returns Inv-loop μ-loop
 returns c = verdicts-done _ _ _ (c .before .loop .inv) (c .loop-test .left)
@@ -41,8 +48,9 @@ verdicts-ok-spec =
     Inv-loop
     μ-loop
     loop-holds
-    shared-slice-read-verdict-ok
-    verdict-ok-requires
+    shared-slice-read-rank
+    rank-requires
+    greater-requires
     add-i
     loop-less
     loop-again
