@@ -9,22 +9,13 @@ mod faults;
 mod small;
 mod tally;
 
+use common::options::{self, Options};
 use common::random::Rng;
-use common::tree::{MOST_RECORDS, RECORD, Tree};
+use common::tree::{RECORD, Tree};
 use common::{damage, grow, refusals};
 
 use check::Difference;
 use tally::Tally;
-
-struct Options {
-    seed: u64,
-    /// Random trees.
-    count: u64,
-    /// Damaged strings.
-    damaged: u64,
-    /// Records that a random tree may have.
-    records: u64,
-}
 
 /// Where a difference turned up: the run and its case, and the byte string.
 struct Found {
@@ -34,7 +25,7 @@ struct Found {
 }
 
 fn main() {
-    let options = options();
+    let options = options::read("trees", 200_000, 150_000);
     let mut tally = Tally::default();
     // Short runs first, so that a difference shows on a small case if it can.
     for run in [known_strings, small_trees, random_trees, damaged_strings] {
@@ -44,36 +35,6 @@ fn main() {
         }
     }
     println!("{tally}");
-}
-
-fn options() -> Options {
-    let records = MOST_RECORDS as u64;
-    let mut options = Options { seed: 1, count: 200_000, damaged: 150_000, records };
-    let mut words = std::env::args().skip(1);
-    while let Some(word) = words.next() {
-        let field = match word.as_str() {
-            "--seed" => &mut options.seed,
-            "--count" => &mut options.count,
-            "--damaged" => &mut options.damaged,
-            "--records" => &mut options.records,
-            _ => usage(&format!("unknown argument {word}")),
-        };
-        match words.next().map(|value| value.parse()) {
-            Some(Ok(value)) => *field = value,
-            _ => usage(&format!("{word} wants a number")),
-        }
-    }
-    if options.records == 0 {
-        usage("a tree has at least one record");
-    }
-    options
-}
-
-fn usage(message: &str) -> ! {
-    eprintln!(
-        "{message}\nusage: compare/run trees [--seed S] [--count N] [--damaged N] [--records R]"
-    );
-    std::process::exit(2);
 }
 
 fn found(case: String, bytes: &[u8]) -> impl FnOnce(Difference) -> Found {

@@ -20,6 +20,7 @@ mod sheet_tally;
 mod spoil;
 mod tiny;
 
+use common::options::{self, Options};
 use common::random::Rng;
 use common::sheet::Sheet;
 use common::stated::{self, EXAMPLES, SETTLED};
@@ -38,16 +39,6 @@ const SMALL: u64 = 250_000;
 /// Below so many records, all are small: others would be drawn in vain.
 const FEW: u64 = 24;
 
-struct Options {
-    seed: u64,
-    /// Random sheets.
-    count: u64,
-    /// Damaged sheets.
-    damaged: u64,
-    /// Records that a tree of a random sheet may have.
-    records: u64,
-}
-
 /// Where a difference turned up: the run and its case, and the sheet.
 struct Found {
     case: String,
@@ -56,7 +47,7 @@ struct Found {
 }
 
 fn main() {
-    let options = options();
+    let options = options::read("sheets", RANDOM, DAMAGED);
     let mut tally = Tally::default();
     // Short runs first, so that a difference shows on a small case if it can.
     for run in [known_sheets, tiny_sheets, limit_sheets, random_sheets, damaged_sheets] {
@@ -77,36 +68,6 @@ fn complete(options: &Options, tally: &Tally) {
     let refusals = tally.damaged_answers.missing_refusals();
     let few = options.damaged < DAMAGED;
     assert!(few || refusals.is_empty(), "refusals that never came up: {refusals:?}");
-}
-
-fn options() -> Options {
-    let records = MOST_RECORDS as u64;
-    let mut options = Options { seed: 1, count: RANDOM, damaged: DAMAGED, records };
-    let mut words = std::env::args().skip(1);
-    while let Some(word) = words.next() {
-        let field = match word.as_str() {
-            "--seed" => &mut options.seed,
-            "--count" => &mut options.count,
-            "--damaged" => &mut options.damaged,
-            "--records" => &mut options.records,
-            _ => usage(&format!("unknown argument {word}")),
-        };
-        match words.next().map(|value| value.parse()) {
-            Some(Ok(value)) => *field = value,
-            _ => usage(&format!("{word} wants a number")),
-        }
-    }
-    if options.records == 0 {
-        usage("a tree has at least one record");
-    }
-    options
-}
-
-fn usage(message: &str) -> ! {
-    eprintln!(
-        "{message}\nusage: compare/run sheets [--seed S] [--count N] [--damaged N] [--records R]"
-    );
-    std::process::exit(2);
 }
 
 fn found(case: String, bytes: Vec<u8>) -> impl FnOnce(Difference) -> Found {

@@ -1,13 +1,14 @@
 -- What the exported numbers mean, and what is written to a lent buffer. Assumes nothing: these are definitions.
 use mathlib.Core.Bool.{Bool, true, false, cond}
-use mathlib.Core.List.{List, _++_}
+use mathlib.Core.List.{List}
 use Prim.Native.Nat.{ℕ, _+_}
 use lib.Dec.{leb}
-use lib.ListN.{length, drop}
+use lib.ListN.{length}
 use Rattle.particle.specs.declared.MaxOccurs.{MaxOccurs}
 use Rattle.particle.specs.declared.MaxOccurs.the-variants.{Bounded, Unbounded}
 use Rattle.particle.specs.declared.Occurs.{Occurs}
 use Rattle.entries.specs.Answer.{Answer, gives, refused}
+use Rattle.entries.specs.TidyAnswer.{startingWith}
 use Rattle.rules.specs.Verdicts.{Mark, passes, undecided, fails}
 
 -- 2 to the power 32
@@ -44,4 +45,4 @@ markNumber (refused n) = 1000 + n
 
 -- the buffer with s at its start, where s fits; else the buffer
 abbrev pub written : List ℕ → List ℕ → List ℕ
-written s out = cond (leb (length s) (length out)) (s ++ drop (length s) out) out
+written s out = cond (leb (length s) (length out)) (startingWith s out) out

@@ -26,8 +26,8 @@ use Rattle.sheet.specs.Refused.{sheetRefusal}
 use Rattle.marking.specs.Answer.{markOfSheet, markSheet}
 
 -- the maximum of a tree's root is that of the record that its bytes start with
-pub root-max : {t : List ℕ} {r : Record} {p : Occurs} → Row 1 t → r ≡ recordAt t → p ≡ rangeOf r → pairOf (tree t .head) .max ≡ p .max
-root-max {t} w e f = rw (tree-is w, pair-record (recordAt t), f, e)
+pub root-max : {t : List ℕ} {r : Record} → Row 1 t → r ≡ recordAt t → rangeOf r .max ≡ pairOf (tree t .head) .max
+root-max {t} w e = rw (tree-is w, pair-record (recordAt t), e)
 
 -- the early pass, test by test
 module _ (d b : Particle) {x : Bool} (dz : x ≡ isZero (pairOf (d .head) .max)) where

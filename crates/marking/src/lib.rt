@@ -14,7 +14,6 @@ ghost use Rattle.sheet.specs.Layout.{derivedPart, basePart};
 ghost use Rattle.marking.specs.Buffers.{Buffer, Prepared};
 ghost use Rattle.marking.specs.Answer.{markOfSheet, markSheet, markMeaning};
 use intake::Refusal;
-use particle::MaxOccurs;
 use sheet::SheetChecked;
 use verdicts::Reason;
 use verdicts::Verdict;
@@ -38,12 +37,7 @@ fn never(t: &[u8]) -> bool
     requires { ⌜ Row 1 (now t) ⌝ }
     ensures { λ r. ⌜ r ≡ isZero (pairOf (tree (now (t .entry)) .head) .max) ⌝ }
 {
-    let pair = particle::range(particle::record_at(t));
-    let max = pair.max;
-    match max {
-        MaxOccurs::Unbounded => false,
-        MaxOccurs::Bounded(n) => n == 0,
-    }
+    particle::never(particle::record_at(t))
 }
 
 // The early pass: the derived root has maximum 0, and the base root has maximum 0 or is emptiable.

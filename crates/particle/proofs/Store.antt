@@ -6,9 +6,8 @@ use native.Mathlib.Numerals.{towards-suc}
 use lib.ListN.{length, take, drop, set}
 use lib.Seq.{sets, sets-eq, drop-at, length-take-le}
 use Rattle.particle.specs.declared.Record.{Record}
-use Rattle.particle.specs.Record.{recordSize, recordAt, wordBytes, recordBytes}
+use Rattle.particle.specs.Record.{recordSize, wordBytes, recordBytes}
 use Rattle.particle.specs.Write.{overwrite}
-use Rattle.particle.proofs.RoundTrip.{record-bytes}
 
 -- four bytes, as `write_u32` stores them
 pub four-stored : (l : List ℕ) (at a b c d : ℕ) → set (set (set (set l at a) (at + 1) b) (at + 2) c) (at + 3) d ≡ sets l at (a ∷ b ∷ c ∷ d ∷ [])
@@ -26,7 +25,3 @@ record-stored l at r h =
 pub from-written : (at : ℕ) (bytes l : List ℕ) → at ≤ length l → drop at (overwrite at bytes l) ≡ bytes ++ drop (at + length bytes) l
 unfolding overwrite
 from-written at bytes l h = drop-at (take at l) (bytes ++ drop (at + length bytes) l) at (length-take-le at l h)
-
--- a record that was written is read back
-pub read-back : (at : ℕ) (r : Record) (l : List ℕ) → at ≤ length l → recordAt (drop at (overwrite at (recordBytes r) l)) ≡ r
-read-back at r l h = rw (from-written at (recordBytes r) l h) (record-bytes r (drop (at + recordSize) l))

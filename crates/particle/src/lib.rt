@@ -5,7 +5,7 @@ ghost use mathlib.Core.Path.{_≡_};
 ghost use Prim.Native.Nat.{_+_, _%_, _≤_, _<_};
 ghost use lib.ListN.{length, drop};
 ghost use lib.Seq.{sets};
-ghost use Rattle.particle.specs.Occurs.{rangeOk};
+ghost use Rattle.particle.specs.Occurs.{isZero, rangeOk};
 ghost use Rattle.particle.specs.Record.{recordSize, recordAt, word, recordBytes, wordBytes, rangeOf};
 ghost use Rattle.particle.specs.Write.{overwrite};
 ghost use Rattle.particle.specs.Tree.{records};
@@ -150,6 +150,16 @@ pub fn range_ok(d: Occurs, b: Occurs) -> bool
             MaxOccurs::Bounded(m) => m <= n,
         },
     }
+}
+
+// Whether the maximum of r is 0.
+pub fn never(r: Record) -> bool
+    ensures { λ b. ⌜ b ≡ isZero (rangeOf r .max) ⌝ }
+{
+    if r.unbounded != 0 {
+        return false;
+    }
+    r.max == 0
 }
 
 // How many records t has.

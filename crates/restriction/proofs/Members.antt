@@ -13,12 +13,8 @@ use Rattle.verdicts.specs.declared.Reason.{Reason}
 use Rattle.verdicts.specs.declared.Verdict.{Verdict}
 use Rattle.verdicts.specs.declared.Verdict.the-variants.{Ok, Unknown, Violation}
 use Rattle.verdicts.specs.Reasons.{reasonNumber, markOf, definiteOf}
+use Rattle.verdicts.proofs.Marks.{now-seen}
 use Rattle.restriction.proofs.Parts.{Part, part-start, part-next, row-none, row-cons}
-
--- an undecided item is as good as one that was seen before
-pub now-seen : (seen : Bool) → definiteOf seen undecided ≡ undecided
-now-seen true = refl
-now-seen false = refl
 
 -- Each member, f marking one. t is the part at which the next member starts, i members before the end.
 pub record Members (f : Particle → Mark) (dn : ℕ) (ds : List ℕ) (seen : Bool) (t : List ℕ) (i : ℕ) : Type 0 where

@@ -13,9 +13,9 @@ use Rattle.verdicts.specs.declared.Reason.{Reason}
 use Rattle.verdicts.specs.declared.Verdict.{Verdict}
 use Rattle.verdicts.specs.declared.Verdict.the-variants.{Ok, Unknown, Violation}
 use Rattle.verdicts.specs.Reasons.{reasonNumber, markOf, definiteOf}
+use Rattle.verdicts.proofs.Marks.{now-seen}
 use Rattle.restriction.specs.Views.{asOnce, eachOnce}
 use Rattle.restriction.proofs.Parts.{cons, Part, part-start, part-next, first-tree, row-none, row-cons}
-use Rattle.restriction.proofs.Members.{now-seen}
 
 -- no derived item is left
 lax-ends : (J : Judge) (bs : Items) → recurseOrdered J true none bs ≡ passes

@@ -7,6 +7,5 @@ pub mod SoundElements
 pub mod SoundWalk
 pub mod Sound
 pub mod Inclusion
-pub mod UnknownSeen
 pub mod Examples
 pub mod PremisesNeeded

@@ -17,11 +17,6 @@ passes andThen rest = rest
 undecided andThen rest = undecided
 fails r andThen rest = fails r
 
--- The same for a loop that goes on past undecided items (`definite`): what it answers that has seen one or not, if the rest answers m.
-abbrev pub definite : (seen : Bool) → Mark → Mark
-definite true m = undecided
-definite false m = m
-
 -- One alternative, and then the later ones: 'the first pass wins; else one undecided makes it undecided'.
 abbrev pub _orElse_ : Mark → Mark → Mark
 passes orElse rest = passes

@@ -13,7 +13,7 @@ use Rattle.particle.proofs.ItemEncodes.{length-encode}
 use Rattle.intake.specs.Accepted.{TreeFits}
 use Rattle.intake.proofs.AcceptedFits as trees
 use Rattle.verdicts.specs.Paper.{leafSize}
-use Rattle.sheet.specs.Layout.{contentsSize, leafCount, derivedCount, baseCount, tablesAt, derivedAt, baseAt, contentsBytes, leavesPart, tablesPart, derivedPart, basePart, sheetLeaves, leavesBytes}
+use Rattle.sheet.specs.Layout.{contentsSize, leafCount, derivedCount, baseCount, tablesAt, derivedAt, baseAt, contentsBytes, leavesPart, tablesPart, derivedPart, basePart, leafList, leavesBytes}
 use Rattle.sheet.specs.Refused.{verdictOk, knownIn}
 use Rattle.sheet.specs.Fits.{Paper, encodeSheet, Each, LeafFits, VerdictFits, TableFits, PaperFits}
 use Rattle.sheet.proofs.Contents.{Contents, contents, length-leaves, length-tables, length-derived, length-base}
@@ -25,7 +25,7 @@ use Rattle.sheet.proofs.AcceptedSheet.{Passed}
 -- the paper that a sheet is
 abbrev pub paperOf : List ℕ → Paper
 paperOf s = record {
-  leaves = sheetLeaves s;
+  leaves = leafList s;
   first = take (leafCount s * leafCount s) (tablesPart s);
   second = drop (leafCount s * leafCount s) (tablesPart s);
   derived = tree (derivedPart s);
@@ -59,10 +59,10 @@ module _ (s : List ℕ) (b : Bytes s) (p : Passed s) where
   part-bytes at size = bytes-take size (drop at s) (bytes-drop at s b)
 
   -- each body is the encoding of what is read from it
-  count : n ≡ length (sheetLeaves s)
+  count : n ≡ length (leafList s)
   count = sym (length-leavesIn n (leavesPart s))
 
-  leaves : leavesPart s ≡ leavesBytes (sheetLeaves s)
+  leaves : leavesPart s ≡ leavesBytes (leafList s)
   leaves = sym (leaves-forth n (leavesPart s) (part-bytes contentsSize (leafSize * n)) (length-leaves c))
 
   tables : tablesPart s ≡ take (n * n) (tablesPart s) ++ drop (n * n) (tablesPart s)
@@ -83,13 +83,13 @@ module _ (s : List ℕ) (b : Bytes s) (p : Passed s) where
       ∙ (ap (λ (x : List ℕ). contentsBytes n (derivedCount s) (baseCount s) ++ x) bodies-are
       ∙ (λ i. contentsBytes (count i) (d i) (e i) ++ (leaves i ++ (tables i ++ (derived .0 i ++ base .0 i)))))
 
-  leaves-in : Each LeafFits (sheetLeaves s)
+  leaves-in : Each LeafFits (leafList s)
   leaves-in = leaves-fit n (leavesPart s) (part-bytes contentsSize (leafSize * n)) (p .leaves)
 
   verdicts-in : Each VerdictFits (take (n * n) (tablesPart s)) × Each VerdictFits (drop (n * n) (tablesPart s))
   verdicts-in = each-split VerdictFits (take (n * n) (tablesPart s)) (drop (n * n) (tablesPart s)) (rw tables at (every-each verdictOk VerdictFits verdict-fits (tablesPart s) (p .verdicts)))
 
-  square : (t : List ℕ) → length t ≡ n * n → Each VerdictFits t → TableFits (length (sheetLeaves s)) t
+  square : (t : List ℕ) → length t ≡ n * n → Each VerdictFits t → TableFits (length (leafList s)) t
   square t l f = record { square = l ∙ ap (λ (k : ℕ). k * k) count; verdicts = f }
 
   pub paper-fits : PaperFits (paperOf s)
@@ -99,6 +99,6 @@ module _ (s : List ℕ) (b : Bytes s) (p : Passed s) where
     leaves = leaves-in;
     first = square _ (length-take-le (n * n) (tablesPart s) (omega (arith, length-tables c))) (verdicts-in .0);
     second = square _ (omega (arith, length-drop (n * n) (tablesPart s), length-tables c)) (verdicts-in .1);
-    derived = rw (known-is (sheetLeaves s) leaves-in) (derived .1);
-    base = rw (known-is (sheetLeaves s) leaves-in) (base .1);
+    derived = rw (known-is (leafList s) leaves-in) (derived .1);
+    base = rw (known-is (leafList s) leaves-in) (base .1);
   }

@@ -18,7 +18,7 @@ use Rattle.intake.proofs.AcceptedFits.{accepted-row, accepted-faithful}
 use Rattle.verdicts.specs.Paper.{leafSize, leavesOf}
 use Rattle.sheet.specs.declared.SheetChecked.{SheetChecked}
 use Rattle.sheet.specs.declared.SheetChecked.the-variants.{Accepted, Refused}
-use Rattle.sheet.specs.Layout.{leafCount, sheetLeaves, leavesPart, tablesPart, derivedPart, basePart}
+use Rattle.sheet.specs.Layout.{leafCount, leafList, leavesPart, tablesPart, derivedPart, basePart}
 use Rattle.sheet.specs.Refused.{contentsOk, leavesOk, verdictsOk, knownIn, orElse, sheetRefusal}
 use Rattle.sheet.proofs.Contents as C
 use Rattle.sheet.proofs.Contents.{contents}
@@ -26,7 +26,7 @@ use Rattle.sheet.proofs.Contents.{contents}
 -- each check passed
 pub record Passed (s : List ℕ) : Type 0 where
   pub contents : contentsOk s ≡ true
-  pub leaves : leavesOk (sheetLeaves s) ≡ true
+  pub leaves : leavesOk (leafList s) ≡ true
   pub verdicts : verdictsOk (tablesPart s) ≡ true
   pub base : refusalIn (knownIn s) (basePart s) ≡ tree.Accepted
   pub derived : refusalIn (knownIn s) (derivedPart s) ≡ tree.Accepted
@@ -49,7 +49,7 @@ all-passed false l v b d e = absurd (refused e)
 pub passed : (s : List ℕ) → sheetRefusal s ≡ Accepted → Passed s
 unfolding sheetRefusal
 passed s e =
-    let p = all-passed (contentsOk s) (leavesOk (sheetLeaves s)) (verdictsOk (tablesPart s)) (refusalIn (knownIn s) (basePart s)) (refusalIn (knownIn s) (derivedPart s)) e in
+    let p = all-passed (contentsOk s) (leavesOk (leafList s)) (verdictsOk (tablesPart s)) (refusalIn (knownIn s) (basePart s)) (refusalIn (knownIn s) (derivedPart s)) e in
     record { contents = p .0; leaves = p .1; verdicts = p .2; base = p .3; derived = p .4 }
 
 pub not-refused : (s : List ℕ) → Passed s → sheetRefusal s ≡ Accepted
@@ -78,9 +78,6 @@ module _ {s : List ℕ} (p : Passed s) where
 
   pub base-few : length (basePart s) ≤ recordSize * maxRecords
   base-few = omega (arith, C.length-base sound, sound .base .high)
-
-  pub tables-length : length (tablesPart s) ≡ 2 * (leafCount s * leafCount s)
-  tables-length = C.length-tables sound
 
   pub leaves-length : length (leavesPart s) ≡ leafSize * leafCount s
   leaves-length = C.length-leaves sound

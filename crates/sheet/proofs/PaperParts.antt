@@ -11,7 +11,7 @@ use Rattle.particle.specs.Tree.{single, sizeI}
 use Rattle.particle.specs.Encode.{encode}
 use Rattle.particle.proofs.ItemEncodes.{length-encode}
 use Rattle.verdicts.specs.Paper.{leafSize}
-use Rattle.sheet.specs.Layout.{contentsSize, totalField, tablesAt, derivedAt, baseAt, totalOf, wholeLength, tablesPart, derivedPart, basePart, leavesBytes, sheetLeaves}
+use Rattle.sheet.specs.Layout.{contentsSize, totalField, tablesAt, derivedAt, baseAt, totalOf, wholeLength, tablesPart, derivedPart, basePart, leavesBytes, leafList}
 use Rattle.sheet.specs.Fits.{Paper, encodeSheet, PaperFits}
 use Rattle.sheet.proofs.ContentsBytes.{Starts, contents-back}
 use Rattle.sheet.proofs.LeafBytes.{length-leavesBytes, leaves-back}
@@ -57,7 +57,7 @@ module _ (p : Paper) where
     at-derived : (take (recordSize * d) (drop (derivedAt n) (encodeSheet p)) ≡ encode (single (p .derived))) × (drop (baseAt n d) (encodeSheet p) ≡ encode (single (p .base)))
     at-derived = next (encodeSheet p) _ _ (derivedAt n) (recordSize * d) (at-tables .1) (length-encode (single (p .derived)))
 
-    pub sheet-leaves : sheetLeaves (encodeSheet p) ≡ p .leaves
+    pub sheet-leaves : leafList (encodeSheet p) ≡ p .leaves
     sheet-leaves = rw (starts .leaves, at-leaves .0) (leaves-back (p .leaves))
 
     pub tables-part : tablesPart (encodeSheet p) ≡ p .first ++ p .second

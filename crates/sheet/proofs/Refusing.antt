@@ -9,7 +9,7 @@ use Rattle.intake.specs.declared.Checked.the-variants as tree
 use Rattle.intake.specs.Faults.{Known}
 use Rattle.intake.specs.Scan.{refusalIn}
 use Rattle.sheet.specs.declared.SheetChecked.the-variants.{Accepted, Refused}
-use Rattle.sheet.specs.Layout.{sheetLeaves, tablesPart, derivedPart, basePart}
+use Rattle.sheet.specs.Layout.{leafList, tablesPart, derivedPart, basePart}
 use Rattle.sheet.specs.Refused.{contentsOk, leavesOk, verdictsOk, knownIn, treesRefusal, sheetRefusal}
 
 module _ (s : List ℕ) where
@@ -18,11 +18,11 @@ module _ (s : List ℕ) where
   contents-refused c = rw c
 
   module _ (c : contentsOk s ≡ true) where
-    pub leaf-refused : leavesOk (sheetLeaves s) ≡ false → Refused Leaf ≡ sheetRefusal s
+    pub leaf-refused : leavesOk (leafList s) ≡ false → Refused Leaf ≡ sheetRefusal s
     unfolding sheetRefusal
     leaf-refused l = rw (c, l)
 
-    module _ (l : leavesOk (sheetLeaves s) ≡ true) where
+    module _ (l : leavesOk (leafList s) ≡ true) where
       pub verdict-refused : verdictsOk (tablesPart s) ≡ false → Refused Verdict ≡ sheetRefusal s
       unfolding sheetRefusal
       verdict-refused v = rw (c, l, v)

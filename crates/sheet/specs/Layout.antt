@@ -81,5 +81,5 @@ leavesBytes [] = []
 leavesBytes (l ∷ ls) = leafBytes l ++ leavesBytes ls
 
 -- the leaves of the sheet
-abbrev pub sheetLeaves : List ℕ → List Leaf
-sheetLeaves s = leavesIn (leafCount s) (leavesPart s)
+abbrev pub leafList : List ℕ → List Leaf
+leafList s = leavesIn (leafCount s) (leavesPart s)

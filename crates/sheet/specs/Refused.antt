@@ -15,7 +15,7 @@ use Rattle.intake.specs.Scan.{refusalIn, listed}
 use Rattle.sheet.specs.declared.SheetChecked.{SheetChecked}
 use Rattle.sheet.specs.declared.SheetChecked.the-variants.{Accepted, Refused}
 use Rattle.sheet.specs.declared.bodies.Leaf as leaf
-use Rattle.sheet.specs.Layout.{contentsSize, maxLeaves, leafCount, derivedCount, baseCount, zeroByte, totalField, wholeLength, tablesPart, derivedPart, basePart, sheetLeaves}
+use Rattle.sheet.specs.Layout.{contentsSize, maxLeaves, leafCount, derivedCount, baseCount, zeroByte, totalField, wholeLength, tablesPart, derivedPart, basePart, leafList}
 
 -- 1: under 8 bytes, a contents field out of its range, or total field or actual length unlike the formula
 abbrev pub inRange : (least most n : ℕ) → Bool
@@ -58,7 +58,7 @@ kindsOf (l ∷ ls) = l .kind ∷ kindsOf ls
 
 -- the leaves that a tree of the sheet may name: the leaf number is below n, and the leaf is of the record's kind
 abbrev pub knownIn : List ℕ → Known
-knownIn s = listed (kindsOf (sheetLeaves s))
+knownIn s = listed (kindsOf (leafList s))
 
 -- base tree 5 to 9, then derived tree 10 to 14
 abbrev pub orElse : (Fault → Refusal) → Checked → SheetChecked → SheetChecked
@@ -71,7 +71,7 @@ treesRefusal known s = orElse Base (refusalIn known (basePart s)) (orElse Derive
 unfoldable pub sheetRefusal : List ℕ → SheetChecked
 sheetRefusal s =
     cond (contentsOk s)
-    (cond (leavesOk (sheetLeaves s))
+    (cond (leavesOk (leafList s))
     (cond (verdictsOk (tablesPart s))
     (treesRefusal (knownIn s) s)
     (Refused Verdict))

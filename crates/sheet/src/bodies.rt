@@ -6,7 +6,7 @@ ghost use lib.ListN.{length, take, drop};
 ghost use Rattle.verdicts.specs.Paper.{leafSize};
 ghost use Rattle.sheet.specs.Layout.{leafAt, leavesIn};
 ghost use Rattle.sheet.specs.Refused.{inRange, leafOk, leavesOk, verdictOk, verdictsOk, kindsOf};
-use crate::layout::LEAF_SIZE;
+use verdicts::LEAF_SIZE;
 
 // The rank of a verdict is at most this.
 const LAST_RANK: u8 = 12;

@@ -7,12 +7,10 @@ ghost use Rattle.sheet.specs.Layout.{contentsSize, leafCount, derivedCou
 ghost use Rattle.sheet.specs.Refused.{inRange, countsOk, contentsOk};
 use particle::MAX_RECORDS;
 use particle::RECORD_SIZE;
+use verdicts::LEAF_SIZE;
 
 // The length of the contents in bytes.
 const CONTENTS_SIZE: usize = 8;
-
-// The length of a leaf in bytes.
-pub const LEAF_SIZE: usize = 4;
 
 // A sheet has at most so many leaves.
 pub const MAX_LEAVES: usize = 64;

@@ -17,8 +17,8 @@ use Rattle.particle.proofs.EncodeParts.{size-then, count-then, items-faithful, 
 use Rattle.particle.proofs.RoundTrip.{then-none}
 use Rattle.tidying.specs.declared.Kept.{Kept}
 use Rattle.tidying.specs.declared.Written.{Written}
-use Rattle.tidying.specs.Tidy.{keep, closed, tidyItems, tidy}
-use Rattle.tidying.specs.Laid.{tidied, isTidied, Room, Laid, KeepsAfter, Closes, Writes}
+use Rattle.tidying.specs.Tidy.{keep, closed, tidyItems, tidy, isTidied}
+use Rattle.tidying.specs.Laid.{tidied, Room, Laid, KeepsAfter, Closes, Writes}
 use Rattle.tidying.proofs.Sizes.{keep-smaller, tidy-smaller}
 use Rattle.tidying.proofs.LaidTrees.{laid-none, laid-then, laid-within, laid-long}
 use Rattle.tidying.proofs.KeepStep.{keep-then}

@@ -10,8 +10,7 @@ use Rattle.particle.specs.declared.Record.{Record}
 use Rattle.particle.specs.Occurs.{isOnce}
 use Rattle.particle.specs.Record.{rangeOf}
 use Rattle.particle.specs.Tree.{sequence, choice, headFrom, headOf}
-use Rattle.tidying.specs.Tidy.{splices, takesPair}
-use Rattle.tidying.specs.Laid.{isTidied}
+use Rattle.tidying.specs.Tidy.{splices, takesPair, isTidied}
 
 -- a number from 4 on is none below
 beyond : (k j : ℕ) → j ≤ 3 → eqb (suc (suc (suc (suc k)))) j ≡ false

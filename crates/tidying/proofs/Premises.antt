@@ -61,10 +61,6 @@ module _ (P : Head → Items → Type 0) (kept : (g : Head) → Group g → (h :
 pub tidy-heads : (Q : Head → Type 0) → ((p : Occurs) → Q (sequence p) → Q (choice (exactly 1)) → Q (choice p)) → (x : Particle) → Throughout (λ h k. Q h) x → Throughout (λ h k. Q h) (tidy x)
 tidy-heads Q taken = tidy-each (λ h k. Q h) (λ g s h k r rest x a b. a) (λ p k. taken p)
 
--- a property that asks nothing of sequences and choices, as that a leaf has no items
-pub tidy-others : (P : Head → Items → Type 0) → ((p : Occurs) (k : Items) → P (sequence p) k) → ((p : Occurs) (k : Items) → P (choice p) k) → (x : Particle) → Throughout P x → Throughout P (tidy x)
-tidy-others P s c = tidy-each P (λ g e h k r rest x a b. group-cases (λ (g : Head). (t : Items) → P g t) s c g e (keep g x rest)) (λ p k a b. c p k)
-
 pub tidy-no-zero-maximum : (x : Particle) → Throughout NoZeroMaximum x → Throughout NoZeroMaximum (tidy x)
 tidy-no-zero-maximum = tidy-heads (λ h. NoZeroMaximum h none) (λ p a b. a)
 

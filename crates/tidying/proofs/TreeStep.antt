@@ -14,8 +14,8 @@ use Rattle.particle.specs.Write.{overwrite}
 use Rattle.particle.proofs.Laws.{tree-is, row-one, run-is}
 use Rattle.particle.proofs.EncodeParts.{first-faithful}
 use Rattle.tidying.specs.declared.Written.{Written}
-use Rattle.tidying.specs.Tidy.{closed, settle, tidyItems, tidy}
-use Rattle.tidying.specs.Laid.{tidied, isTidied, Room, Writes}
+use Rattle.tidying.specs.Tidy.{closed, settle, tidyItems, tidy, isTidied}
+use Rattle.tidying.specs.Laid.{tidied, Room, Writes}
 use Rattle.tidying.proofs.LaidTrees.{laid-none, laid-write}
 
 -- a sequence or choice is closed over its tidied items, any other tree is left as it is

@@ -1,12 +1,11 @@
 -- What the functions that tidy ask and leave: trees written one after another into a buffer. Assumes nothing: these are definitions.
 use mathlib.Core.Path.{_≡_}
-use mathlib.Core.Bool.{Bool, true, false}
 use mathlib.Core.List.{List, _++_}
 use Prim.Native.Nat.{ℕ, _+_, _*_, _-_, _≤_}
 use lib.ListN.{length, take, drop}
 use Rattle.particle.specs.declared.Record.{Record}
 use Rattle.particle.specs.Record.{recordSize, maxRecords}
-use Rattle.particle.specs.Tree.{Head, element, wildcard, sequence, choice, all, Items, none, Particle, single, countI, sizeI, headOf, records, tree}
+use Rattle.particle.specs.Tree.{Items, none, Particle, single, countI, sizeI, headOf, records, tree}
 use Rattle.particle.specs.Rows.{Row, row, runSize}
 use Rattle.particle.specs.Encode.{encode, Faithful}
 use Rattle.tidying.specs.declared.Kept.{Kept}
@@ -16,14 +15,6 @@ use Rattle.tidying.specs.Tidy.{keep, closed, tidy}
 -- the tree that t starts with, tidied
 abbrev pub tidied : List ℕ → Items
 tidied t = single (tidy (tree t))
-
--- the groups whose items are tidied
-abbrev pub isTidied : Head → Bool
-isTidied (element l p) = false
-isTidied (wildcard l p) = false
-isTidied (sequence p) = true
-isTidied (choice p) = true
-isTidied (all p) = false
 
 -- t has n trees, and there is room for their records in out from `at` on
 pub record Room (t : List ℕ) (n : ℕ) (out : List ℕ) (at : ℕ) : Type 0 where

@@ -37,6 +37,14 @@ closed g none = record { head = g; items = none }
 closed g (item h k none) = elim (isOnce (pairOf g)) [ true ↦ record { head = h; items = k } | false ↦ lone g h k ]
 closed g (item h k (item h′ k′ r)) = record { head = g; items = item h k (item h′ k′ r) }
 
+-- the groups whose items are tidied
+abbrev pub isTidied : Head → Bool
+isTidied (element l p) = false
+isTidied (wildcard l p) = false
+isTidied (sequence p) = true
+isTidied (choice p) = true
+isTidied (all p) = false
+
 -- a record, from its items and from its items tidied: leaves and all-groups are not altered
 abbrev pub settle : Head → (items tidied : Items) → Particle
 settle (element l p) k t = record { head = element l p; items = k }

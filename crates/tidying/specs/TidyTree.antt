@@ -1,17 +1,14 @@
 -- Tidy trees (document 02 §8). Assumes nothing: these are definitions.
 use mathlib.Core.Bool.{true, false}
+use lib.Dec.{T}
 use mathlib.Core.Path.{_≡_}
 use Rattle.particle.specs.Occurs.{isZero, isOnce}
-use Rattle.particle.specs.Tree.{Head, element, wildcard, sequence, choice, all, Items, none, item, Particle, pairOf, single, countI}
-use Rattle.tidying.specs.Tidy.{splices, takesPair}
+use Rattle.particle.specs.Tree.{Head, Items, none, item, Particle, pairOf, single, countI}
+use Rattle.tidying.specs.Tidy.{splices, takesPair, isTidied}
 
 -- a sequence or a choice: what tidying works on
 abbrev pub Group : Head → Type 0
-Group (element l p) = ⊥
-Group (wildcard l p) = ⊥
-Group (sequence p) = Unit {0}
-Group (choice p) = Unit {0}
-Group (all p) = ⊥
+Group g = T (isTidied g)
 
 -- Q of the head of each of the trees
 abbrev pub EachItem : (Head → Type 0) → Items → Type 0

@@ -6,13 +6,13 @@ ghost use mathlib.Core.Path.{_≡_};
 ghost use mathlib.Core.List.{_++_};
 ghost use Prim.Native.Nat.{_+_, _*_, _≤_};
 ghost use lib.ListN.{length, drop};
-ghost use Rattle.particle.specs.Occurs.{isZero, isOnce};
+ghost use Rattle.particle.specs.Occurs.{isOnce};
 ghost use Rattle.particle.specs.Record.{recordSize, maxRecords, recordAt, rangeOf};
 ghost use Rattle.particle.specs.Tree.{sizeI, headOf, records};
 ghost use Rattle.particle.specs.Rows.{Row, row};
 ghost use Rattle.particle.specs.Encode.{recordOf, encode, Faithful};
-ghost use Rattle.tidying.specs.Tidy.{splices, takesPair};
-ghost use Rattle.tidying.specs.Laid.{tidied, isTidied, Room, Removed, KeepsAfter, Closes, Writes, StartsWith};
+ghost use Rattle.tidying.specs.Tidy.{splices, takesPair, isTidied};
+ghost use Rattle.tidying.specs.Laid.{tidied, Room, Removed, KeepsAfter, Closes, Writes, StartsWith};
 use particle::Record;
 
 // The length of the longest tree in bytes.
@@ -28,16 +28,6 @@ struct Written {
 struct Kept {
     count: usize,
     end: usize,
-}
-
-// Whether the maximum of h is 0.
-fn never(h: Record) -> bool
-    ensures { λ r. ⌜ r ≡ isZero (rangeOf h .max) ⌝ }
-{
-    if h.unbounded != 0 {
-        return false;
-    }
-    h.max == 0
 }
 
 // Whether the pair of h is (1,1).
@@ -111,7 +101,7 @@ fn keep(g: Record, out: &mut [u8], start: usize, end: usize, count: usize) -> Ke
     ensures { λ r. ⌜ KeepsAfter g (now (out .entry)) (now (out .exit)) start end count r ⌝ }
 {
     let h = particle::record_at(&out[start..]);
-    if never(h) {
+    if particle::never(h) {
         return Kept {
             count: count,
             end: start,

@@ -1,6 +1,6 @@
 -- What `emptiable` is of the first tree, by its record, and of a row, tree by tree. Assumes nothing.
-use mathlib.Core.Bool.{Bool, true, false, _||_}
-use mathlib.Core.List.{List, _∷_}
+use mathlib.Core.Bool.{Bool, true, false, _||_, Bool·beq, true≢false, false≢true}
+use mathlib.Core.List.{List, [], _∷_}
 use mathlib.Core.Path.{_≡_, refl, ap, _∙_}
 use Prim.Native.Nat.{ℕ, zero, suc, _-_, _≤_, _<_}
 use borrow.Author.Tests.{ne-eqb}
@@ -10,7 +10,7 @@ use Rattle.particle.specs.Record.{recordAt, rangeOf}
 use Rattle.particle.specs.Tree.{headFrom, fold, tree}
 use Rattle.particle.specs.Rows.{Row, row, itemsPart, laterPart}
 use Rattle.particle.proofs.Folds.{first-is, items-are, first-leaf, first-choice, first-ordered, fold-none, fold-some}
-use Rattle.totals.specs.Empty.{every, some, isEmpty, optional, emptiableFrom, emptiable}
+use Rattle.totals.specs.Empty.{every, some, everyOrSome, isEmpty, optional, emptiableFrom, emptiable}
 
 optional-from : (k l : ℕ) (p : Occurs) (es : List Bool) → p .min ≡ 0 → emptiableFrom (headFrom k l p) es ≡ true
 optional-from zero l p es z = rw z
@@ -56,3 +56,27 @@ pub row-emptiable : {n : ℕ} {t : List ℕ} → Row n t → (n ≡ 0 → ⊥) �
     → fold emptiableFrom (row n t) ≡ e ∷ fold emptiableFrom (row (n - 1) s)
 unfolding emptiable
 row-emptiable {n} {t} w z = fold-some emptiableFrom n t w z
+
+-- the items of a group, one after the other: the first that is not as `each` asks decides
+pub none-decides : (each : Bool) {es : List Bool} → es ≡ [] → each ≡ everyOrSome each es
+none-decides true q = rw q
+none-decides false q = rw q
+
+module _ (each : Bool) {e : Bool} {es fs : List Bool} (q : es ≡ e ∷ fs) where
+  pub later-decide : Bool·beq e each ≡ true → everyOrSome each fs ≡ everyOrSome each es
+  later-decide s = rw q (go each e s)
+    where
+      go : (each e : Bool) → Bool·beq e each ≡ true → everyOrSome each fs ≡ everyOrSome each (e ∷ fs)
+      go true true s = refl
+      go true false s = absurd (false≢true s)
+      go false true s = absurd (false≢true s)
+      go false false s = refl
+
+  pub first-decides : Bool·beq e each ≡ false → e ≡ everyOrSome each es
+  first-decides s = rw q (go each e s)
+    where
+      go : (each e : Bool) → Bool·beq e each ≡ false → e ≡ everyOrSome each (e ∷ fs)
+      go true true s = absurd (true≢false s)
+      go true false s = refl
+      go false true s = refl
+      go false false s = absurd (true≢false s)

@@ -13,6 +13,10 @@ abbrev pub some : List Bool → Bool
 some [] = false
 some (e ∷ es) = e || some es
 
+abbrev pub everyOrSome : (each : Bool) → List Bool → Bool
+everyOrSome true es = every es
+everyOrSome false es = some es
+
 abbrev pub isEmpty : List Bool → Bool
 isEmpty [] = true
 isEmpty (e ∷ es) = false

@@ -3,7 +3,7 @@ ghost use mathlib.Core.Path.{_≡_};
 ghost use Prim.Native.Nat.{_+_, _*_, min, max};
 ghost use Rattle.particle.specs.Tree.{tree, fold};
 ghost use Rattle.particle.specs.Rows.{Row, row};
-ghost use Rattle.totals.specs.Empty.{every, some, emptiableFrom, emptiable};
+ghost use Rattle.totals.specs.Empty.{everyOrSome, emptiableFrom, emptiable};
 ghost use Rattle.totals.specs.Total.{capMin, capMax, addMax, timesUnbounded, mulMax, maxMax, addRange, mulRange, spanRange, sum, span, totalFrom, total};
 use particle::MaxOccurs;
 use particle::Occurs;
@@ -174,37 +174,24 @@ pub fn emptiable(t: &[u8]) -> bool
         if r.count == 0 {
             return true;
         }
-        return any_emptiable(particle::items(t), n);
+        return items_emptiable(particle::items(t), n, false);
     }
-    all_emptiable(particle::items(t), n)
+    items_emptiable(particle::items(t), n, true)
 }
 
-// Whether each of the first n trees of t is emptiable.
-fn all_emptiable(t: &[u8], n: usize) -> bool
+// Whether each of the first n trees of t is emptiable; without `each`, whether one of them is.
+fn items_emptiable(t: &[u8], n: usize, each: bool) -> bool
     requires { ⌜ Row n (now t) ⌝ }
-    ensures { λ r. ⌜ r ≡ every (fold emptiableFrom (row n (now (t .entry)))) ⌝ }
+    ensures { λ r. ⌜ r ≡ everyOrSome each (fold emptiableFrom (row n (now (t .entry)))) ⌝ }
 {
     if n == 0 {
-        return true;
+        return each;
     }
-    if emptiable(t) {
-        return all_emptiable(particle::later(t), n - 1);
+    let first = emptiable(t);
+    if first == each {
+        return items_emptiable(particle::later(t), n - 1, each);
     }
-    false
-}
-
-// Whether one of the first n trees of t is emptiable.
-fn any_emptiable(t: &[u8], n: usize) -> bool
-    requires { ⌜ Row n (now t) ⌝ }
-    ensures { λ r. ⌜ r ≡ some (fold emptiableFrom (row n (now (t .entry)))) ⌝ }
-{
-    if n == 0 {
-        return false;
-    }
-    if emptiable(t) {
-        return true;
-    }
-    any_emptiable(particle::later(t), n - 1)
+    first
 }
 
 // The total range of the first tree of t.

@@ -5,11 +5,11 @@ use mathlib.Core.Path.{_≡_, refl, ap, sym, _∙_}
 use Prim.Native.Nat.{ℕ}
 use native.Mathlib.Omega.{arith}
 use denote.Enum.Declared.{tagOf}
-use Rattle.rules.specs.Verdicts.{Mark, fails}
+use Rattle.rules.specs.Verdicts.{Mark, undecided, fails}
 use Rattle.rules.specs.Combine.{_orFails_, _andThen_}
 use Rattle.verdicts.specs.declared.Verdict.{Verdict}
 use Rattle.verdicts.specs.declared.Verdict.the-variants.{Ok, Unknown, Violation}
-use Rattle.verdicts.specs.Reasons.{markOf}
+use Rattle.verdicts.specs.Reasons.{markOf, definiteOf}
 use Rattle.verdicts.proofs.Verdict.{the-type}
 
 -- the other variants, as a `let .. else` tells them
@@ -28,6 +28,11 @@ module _ {m : Mark} (rest : Mark) where
 
   pub goes-on : {v : Verdict} → markOf v ≡ m → v ≡ Ok → rest ≡ m andThen rest
   goes-on e o = ap (λ (x : Mark). x andThen rest) (sym (ap markOf o) ∙ e)
+
+-- an undecided item is as good as one that was seen before
+pub now-seen : (seen : Bool) → definiteOf seen undecided ≡ undecided
+now-seen true = refl
+now-seen false = refl
 
 -- a test that holds or not
 module _ {b : Bool} (r : ℕ) (rest : Mark) where

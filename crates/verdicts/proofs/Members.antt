@@ -19,14 +19,10 @@ use Rattle.verdicts.specs.declared.Verdict.{Verdict}
 use Rattle.verdicts.specs.declared.Verdict.the-variants.{Ok, Unknown, Violation}
 use Rattle.verdicts.specs.Reasons.{markOf, definiteOf}
 use Rattle.verdicts.specs.Taken.{unmatched, MemberMark}
+use Rattle.verdicts.proofs.Marks.{now-seen}
 use Rattle.verdicts.proofs.ByKind.{other-kind}
 use Rattle.verdicts.proofs.Rest.{Rest, begin, all-passed, row-here, next}
 use Rattle.verdicts.proofs.Flags.{none-taken}
-
--- whatever was seen, undecided is undecided
-always : (seen : Bool) → definiteOf seen undecided ≡ undecided
-always true = refl
-always false = refl
 
 module _ (L : Leaves) (T : Tables) where
   -- an item of kind number k: it is no element; or no base element has its name; or the first one that has is taken
@@ -69,7 +65,7 @@ module _ (L : Leaves) (T : Tables) where
       passed e p = record { at = next (g .at) l p; same = judged p ∙ rw e }
 
       pub unsure : v ≡ Unknown → {s : List ℕ} → s ≡ laterPart rest → Going s (i + 1) true es
-      unsure e p = record { at = next (g .at) l p; same = judged p ∙ rw e (always seen) }
+      unsure e p = record { at = next (g .at) l p; same = judged p ∙ rw e (now-seen seen) }
 
       pub failed : {n : Reason} → v ≡ Violation n → whole ≡ definiteOf seen (markOf v)
       failed e = judged refl ∙ rw e

@@ -12,7 +12,7 @@ pub use leaves::wildcard_wildcard;
 pub use unordered::recurse_unordered;
 
 // A leaf's length in bytes: kind, process contents, local name number (16 bits).
-const LEAF_SIZE: usize = 4;
+pub const LEAF_SIZE: usize = 4;
 
 // Why a restriction fails. Document 01's number of each: specs/Reasons.antt.
 pub enum Reason {

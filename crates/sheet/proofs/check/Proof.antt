@@ -9,7 +9,7 @@ use lib.ListN.{length, take, length-take}
 use borrow.Author.Needs.{needs}
 use Rattle.intake.specs.Scan.{listed}
 use Rattle.verdicts.specs.Paper.{leafSize}
-use Rattle.sheet.specs.Layout.{maxLeaves, leavesIn, sheetLeaves, tablesPart}
+use Rattle.sheet.specs.Layout.{maxLeaves, leavesIn, leafList, tablesPart}
 use Rattle.sheet.specs.Refused.{contentsOk, leavesOk, verdictsOk, kindsOf, treesRefusal}
 use Rattle.sheet.proofs.Tests.{failed, passed}
 use Rattle.sheet.proofs.Contents.{contents, length-leaves}
@@ -44,7 +44,7 @@ few c = omega (arith, c .before .leaf-count .ensures, contents (c .before .befor
 enough : (c : tie.After-leaves) → leafSize * c .before .leaf-count .result ≤ length (c .leaves .result .now)
 enough c = rw (c .leaves .ensures, c .before .leaf-count .ensures) (le-of-eq (sym (length-leaves (contents (c .before .before .before .before .before .args .s .now) (sound (c .before .before))))))
 
-same : (c : tie.After-leaves) → leavesIn (c .before .leaf-count .result) (c .leaves .result .now) ≡ sheetLeaves (c .before .before .before .before .before .args .s .now)
+same : (c : tie.After-leaves) → leavesIn (c .before .leaf-count .result) (c .leaves .result .now) ≡ leafList (c .before .before .before .before .before .args .s .now)
 same c = rw (c .leaves .ensures, c .before .leaf-count .ensures)
 
 slice-aggregate-read-leaves : tie.Need-slice-aggregate-read-leaves
@@ -53,11 +53,11 @@ slice-aggregate-read-leaves c = search needs
 read-leaves-requires : tie.Need-read-leaves-requires
 read-leaves-requires c κs = (enough (c .before), few (c .before))
 
-leaves : (c : tie.After-read-leaves) → c .read-leaves .result ≡ leavesOk (sheetLeaves (c .before .before .before .before .before .before .before .args .s .now))
+leaves : (c : tie.After-read-leaves) → c .read-leaves .result ≡ leavesOk (leafList (c .before .before .before .before .before .before .before .args .s .now))
 leaves c = c .read-leaves .ensures .0 ∙ ap leavesOk (same (c .before .before))
 
 -- the kinds that it put down, one for each leaf
-kinds : (c : tie.After-read-leaves) → take (c .before .before .before .leaf-count .result) (c .read-leaves .last .1 .1 .0) ≡ kindsOf (sheetLeaves (c .before .before .before .before .before .before .before .args .s .now))
+kinds : (c : tie.After-read-leaves) → take (c .before .before .before .leaf-count .result) (c .read-leaves .last .1 .1 .0) ≡ kindsOf (leafList (c .before .before .before .before .before .before .before .args .s .now))
 kinds c = c .read-leaves .ensures .1 ∙ ap kindsOf (same (c .before .before))
 
 each : (c : tie.After-read-leaves) → length (take (c .before .before .before .leaf-count .result) (c .read-leaves .last .1 .1 .0)) ≡ c .before .before .before .leaf-count .result
@@ -73,7 +73,7 @@ verdicts-ok-requires : tie.Need-verdicts-ok-requires
 verdicts-ok-requires c κs = search needs
 
 -- past the leaves
-in-order : (c : tie.Else2) → leavesOk (sheetLeaves (c .before .before .before .before .before .before .before .before .before .args .s .now)) ≡ true
+in-order : (c : tie.Else2) → leavesOk (leafList (c .before .before .before .before .before .before .before .before .before .args .s .now)) ≡ true
 in-order c = passed (leaves (c .before .before)) (c .if2 .left)
 
 verdicts : (c : tie.After-verdicts-ok) → c .verdicts-ok .result ≡ verdictsOk (tablesPart (c .before .before .before .before .before .before .before .before .before .before .before .args .s .now))

@@ -1,0 +1,43 @@
+//! What the two comparisons are told on the command line.
+
+use crate::tree::MOST_RECORDS;
+
+pub struct Options {
+    pub seed: u64,
+    /// Random trees, or sheets.
+    pub count: u64,
+    /// Damaged strings.
+    pub damaged: u64,
+    /// Records that a random tree may have.
+    pub records: u64,
+}
+
+/// The arguments of `compare/run WHAT`, from these numbers on. Bad ones end
+/// the program with status 2.
+pub fn read(what: &str, count: u64, damaged: u64) -> Options {
+    let usage = |message: &str| -> ! {
+        eprintln!(
+            "{message}\nusage: compare/run {what} [--seed S] [--count N] [--damaged N] [--records R]"
+        );
+        std::process::exit(2);
+    };
+    let mut options = Options { seed: 1, count, damaged, records: MOST_RECORDS as u64 };
+    let mut words = std::env::args().skip(1);
+    while let Some(word) = words.next() {
+        let field = match word.as_str() {
+            "--seed" => &mut options.seed,
+            "--count" => &mut options.count,
+            "--damaged" => &mut options.damaged,
+            "--records" => &mut options.records,
+            _ => usage(&format!("unknown argument {word}")),
+        };
+        match words.next().map(|value| value.parse()) {
+            Some(Ok(value)) => *field = value,
+            _ => usage(&format!("{word} wants a number")),
+        }
+    }
+    if options.records == 0 {
+        usage("a tree has at least one record");
+    }
+    options
+}
