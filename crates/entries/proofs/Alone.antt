@@ -1,11 +1,9 @@
 -- What the check of a tree alone tells the entries. Assumes nothing.
-use mathlib.Core.Path.{_≡_, refl, ap, sym, _∙_}
-use mathlib.Core.Bool.{Bool, true, false}
+use mathlib.Core.Path.{_≡_, ap, sym, _∙_}
 use mathlib.Core.List.{List, []}
 use Prim.Native.Nat.{ℕ, _+_, _≤_, _<_}
 use native.Mathlib.Omega.{arith}
 use borrow.Author.Tests.{lt-ltb, le-ltb}
-use lib.Dec.{ltb}
 use denote.Ref.{RefT, ptr, now}
 use Rattle.particle.specs.Record.{recordAt}
 use Rattle.particle.specs.Rows.{Row, itemStart, itemRun, PartOf}
@@ -16,8 +14,8 @@ use Rattle.intake.specs.declared.Refusal.the-variants.{Derived}
 use Rattle.intake.specs.Number.{refusalNumber}
 use Rattle.intake.specs.Scan.{alone}
 use Rattle.intake.proofs.AcceptedFits.{accepted-row}
-use Rattle.entries.specs.Answer.{Answer, gives, refused, refusalAlone, answer}
-use Rattle.entries.specs.ItemAnswer.{found, itemBytes, itemPlace}
+use Rattle.entries.specs.Answer.{gives, refused, refusalAlone, answer}
+use Rattle.entries.specs.ItemAnswer.{itemBytes, itemPlace}
 
 -- the check found x in t
 module _ (t : List ℕ) {x : Checked} (e : x ≡ refusalAlone t) where

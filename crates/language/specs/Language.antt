@@ -7,7 +7,7 @@ use lib.ListN.{replicate}
 use Rattle.particle.specs.declared.MaxOccurs.{MaxOccurs}
 use Rattle.particle.specs.declared.MaxOccurs.the-variants.{Bounded, Unbounded}
 use Rattle.particle.specs.declared.Occurs.{Occurs}
-use Rattle.particle.specs.Tree.{Head, element, wildcard, sequence, choice, all, Items, Particle, fold}
+use Rattle.particle.specs.Tree.{Head, element, wildcard, sequence, choice, all, Particle, fold}
 
 -- a set of words
 abbrev pub Words : Type 1

@@ -1,16 +1,16 @@
 -- The bytes of an item are the encoding of that item. Assumes nothing.
 use mathlib.Core.Path.{_≡_, refl, ap, sym, subst, _∙_}
 use mathlib.Core.List.{List, [], _∷_, _++_, append-assoc}
-use Prim.Native.Nat.{ℕ, zero, suc, _+_, _*_, _-_, _%_, _≤_, _<_}
+use Prim.Native.Nat.{ℕ, zero, suc, _+_, _*_, _-_, _≤_, _<_}
 use native.Mathlib.Numerals.{add-one}
 use native.Mathlib.Omega.{arith}
-use lib.ListN.{length, take, drop, length-append, length-drop}
+use lib.ListN.{length, take, drop, length-append}
 use lib.Seq.{take-at}
 use Rattle.particle.specs.declared.Record.{Record}
 use Rattle.particle.specs.Record.{recordSize, recordAt, recordBytes}
-use Rattle.particle.specs.Tree.{Items, none, item, Particle, takeI, dropI, countI, sizeI, headOf, records, decode, tree}
+use Rattle.particle.specs.Tree.{Items, none, item, Particle, takeI, dropI, sizeI, records, decode, tree}
 use Rattle.particle.specs.Rows.{Row, row, runSize, itemsPart, itemStart, itemRun}
-use Rattle.particle.specs.Encode.{recordOf, flat, joined, encode, Bytes, Faithful}
+use Rattle.particle.specs.Encode.{flat, joined, encode, Bytes, Faithful}
 use Rattle.particle.proofs.Records.{records-drop}
 use Rattle.particle.proofs.Laws.{tree-is}
 use Rattle.particle.proofs.ItemWalk.{Walk, begin, next, one-left}

@@ -1,14 +1,13 @@
 -- What the loop of `item_start` keeps: where the i-th item starts. Assumes nothing.
-use mathlib.Core.Path.{_≡_, refl, ap, sym, _∙_}
+use mathlib.Core.Path.{_≡_, refl, ap, sym}
 use mathlib.Core.List.{List}
-use Prim.Native.Nat.{ℕ, zero, suc, _+_, _*_, _-_, _≤_, _<_}
-use native.Mathlib.Numerals.{add-one}
+use Prim.Native.Nat.{ℕ, suc, _+_, _*_, _-_, _≤_, _<_}
 use native.Mathlib.Omega.{arith}
 use lib.ListN.{length, drop, length-drop}
 use lib.Seq.{drop-drop}
 use Rattle.particle.specs.Record.{recordSize, recordAt}
 use Rattle.particle.specs.Tree.{Items, takeI, dropI, sizeI, decode}
-use Rattle.particle.specs.Rows.{Row, row, runSize, itemsPart, laterPart, itemStart, ItemAt}
+use Rattle.particle.specs.Rows.{Row, runSize, itemsPart, laterPart, itemStart, ItemAt}
 use Rattle.particle.proofs.Laws.{row-le, some-bytes, run-within, items-row, later-row, later-decode}
 use Rattle.particle.proofs.Trees.{dropI-add, sizeI-add}
 

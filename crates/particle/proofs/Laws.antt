@@ -1,14 +1,13 @@
 -- The laws by which callers read trees: the first tree of a row, its items, and the trees after it. Assumes nothing.
-use mathlib.Core.Path.{_≡_, refl, ap, sym, _∙_}
-use mathlib.Core.List.{List, [], _∷_}
-use Prim.Native.Nat.{ℕ, zero, suc, _+_, _*_, _-_, _/_, _%_, _≤_, _<_}
+use mathlib.Core.Path.{_≡_, refl, ap}
+use mathlib.Core.List.{List, _∷_}
+use Prim.Native.Nat.{ℕ, suc, _+_, _*_, _-_, _≤_, _<_}
 use native.Mathlib.Nat.{le-of-eq}
 use native.Mathlib.Omega.{arith}
 use lib.ListN.{length, take, drop, length-drop}
-use lib.Seq.{drop-drop, take-all}
-use Rattle.particle.specs.declared.Record.{Record}
+use lib.Seq.{take-all}
 use Rattle.particle.specs.Record.{recordSize, recordAt}
-use Rattle.particle.specs.Tree.{Head, Items, none, item, Particle, single, takeI, dropI, countI, sizeI, headOf, build, records, decode, firstOf, tree}
+use Rattle.particle.specs.Tree.{item, single, takeI, dropI, sizeI, headOf, build, records, decode, tree}
 use Rattle.particle.specs.Rows.{Complete, Row, row, runSize, itemsPart, laterPart}
 use Rattle.particle.proofs.Records.{records-cons, records-drop, length-records}
 use Rattle.particle.proofs.Trees.{countI-drop, countI-le, sizeI-build, sizeI-split, build-drop, complete-drop}

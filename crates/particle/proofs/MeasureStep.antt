@@ -7,7 +7,7 @@ use lib.ListN.{length, take, drop, getD, set, length-drop, length-set}
 use lib.Seq.{take-take, take-add, drop-at, length-take-le, drop-drop, drop-length, getD-drop, getD-take, take-set-le, drop-set-lt, drop-set-add}
 use Rattle.particle.specs.declared.Record.{Record}
 use Rattle.particle.specs.Record.{recordSize, maxRecords, recordAt, rangeOf}
-use Rattle.particle.specs.Tree.{Items, item, takeI, dropI, countI, sizeI, headFrom, headOf, build, records, decode, firstOf, tree}
+use Rattle.particle.specs.Tree.{takeI, countI, sizeI, headFrom, headOf, build, records, decode, firstOf, tree}
 use Rattle.particle.specs.Rows.{Complete, Row, row}
 use Rattle.particle.specs.Runs.{Measured, Run}
 use Rattle.particle.proofs.Records.{records-cons, records-short, records-drop, length-records}

@@ -1,17 +1,17 @@
 -- What the loop of `run_len` keeps. Assumes nothing.
-use mathlib.Core.Path.{_≡_, refl, ap, sym, _∙_}
-use mathlib.Core.List.{List, [], _∷_}
-use Prim.Native.Nat.{ℕ, zero, suc, _+_, _*_, _-_, _/_, _≤_, _<_}
+use mathlib.Core.Path.{_≡_}
+use mathlib.Core.List.{List, _∷_}
+use Prim.Native.Nat.{ℕ, suc, _+_, _*_, _-_, _≤_, _<_}
 use native.Mathlib.Nat.{add-comm}
 use native.Mathlib.Omega.{arith}
 use lib.ListN.{length, drop, length-drop}
 use lib.Seq.{drop-drop}
 use Rattle.particle.specs.declared.Record.{Record}
 use Rattle.particle.specs.Record.{recordSize, recordAt}
-use Rattle.particle.specs.Tree.{Items, takeI, dropI, countI, sizeI, build, records, decode}
+use Rattle.particle.specs.Tree.{takeI, countI, sizeI, build, records, decode}
 use Rattle.particle.specs.Rows.{Complete, Row, runSize}
-use Rattle.particle.proofs.Records.{records-cons, length-records, records-drop}
-use Rattle.particle.proofs.Trees.{countI-drop, countI-le, sizeI-build, sizeI-add, complete-drop}
+use Rattle.particle.proofs.Records.{records-cons, length-records}
+use Rattle.particle.proofs.Trees.{countI-drop, countI-le, sizeI-build, sizeI-add}
 
 -- one record on, where p + 1 trees are awaited
 more : (r : Record) (rs : List Record) (p : ℕ) → suc p ≤ countI (build (r ∷ rs)) → r .count ≤ countI (build rs) → p + r .count ≤ countI (build rs)

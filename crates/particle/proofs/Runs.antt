@@ -1,13 +1,13 @@
 -- The laws of measured trees: fewer of them, their items, and the trees after the first. Assumes nothing.
-use mathlib.Core.Path.{_≡_, refl, ap, sym, _∙_}
+use mathlib.Core.Path.{_≡_, refl, ap, _∙_}
 use mathlib.Core.List.{List, [], _∷_}
 use Prim.Native.Nat.{ℕ, zero, suc, _+_, _*_, _-_, _≤_, _<_}
 use native.Mathlib.Omega.{arith}
 use lib.ListN.{length, drop, length-drop}
 use Rattle.particle.specs.declared.Record.{Record}
 use Rattle.particle.specs.Record.{recordSize, recordAt}
-use Rattle.particle.specs.Tree.{takeI, sizeI, build, records, decode}
-use Rattle.particle.specs.Rows.{Row, row, runSize, itemsPart, laterPart}
+use Rattle.particle.specs.Tree.{takeI, sizeI, records, decode}
+use Rattle.particle.specs.Rows.{row, runSize, itemsPart, laterPart}
 use Rattle.particle.specs.Runs.{Measured, Run}
 use Rattle.particle.proofs.Records.{records-cons, records-drop}
 use Rattle.particle.proofs.Laws.{row-le, row-sizes, run-is, run-within, some-bytes, items-row, later-row}

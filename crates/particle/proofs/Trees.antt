@@ -1,12 +1,12 @@
 -- Rows of trees, and the records that they are built from. Assumes nothing.
-use mathlib.Core.Path.{_≡_, refl, ap, sym, _∙_}
+use mathlib.Core.Path.{_≡_, refl, ap}
 use mathlib.Core.List.{List, [], _∷_}
-use Prim.Native.Nat.{ℕ, zero, suc, _+_, _*_, _-_, _≤_, _<_, zero-le}
+use Prim.Native.Nat.{ℕ, zero, suc, _+_, _-_, _≤_, zero-le}
 use native.Mathlib.Nat.{zero-add, suc-add}
 use native.Mathlib.Omega.{arith}
-use lib.ListN.{length, take, drop}
+use lib.ListN.{length, drop}
 use Rattle.particle.specs.declared.Record.{Record}
-use Rattle.particle.specs.Tree.{Head, Items, none, item, takeI, dropI, countI, sizeI, build, fold}
+use Rattle.particle.specs.Tree.{Items, none, item, takeI, dropI, countI, sizeI, build}
 use Rattle.particle.specs.Rows.{Complete}
 
 pub dropI-none : (n : ℕ) → dropI n none ≡ none

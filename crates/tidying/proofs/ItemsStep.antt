@@ -7,13 +7,13 @@ use native.Mathlib.Omega.{arith}
 use lib.ListN.{length, take, drop}
 use Rattle.particle.specs.declared.Record.{Record}
 use Rattle.particle.specs.Record.{recordSize, maxRecords, recordAt}
-use Rattle.particle.specs.Tree.{Head, Items, none, item, single, _then_, takeI, countI, sizeI, headOf, records, tree}
+use Rattle.particle.specs.Tree.{Items, none, item, single, _then_, takeI, countI, sizeI, headOf, records, tree}
 use Rattle.particle.specs.Rows.{Row, row, runSize, itemsPart, laterPart}
 use Rattle.particle.specs.Encode.{recordOf, Faithful}
 use Rattle.particle.proofs.Trees.{countI-le}
 use Rattle.particle.proofs.Laws.{part-is, row-le, row-is, row-one, row-sizes, run-is, run-within, items-row, items-shorter, later-row, later-shorter}
 use Rattle.particle.proofs.Folds.{row-some}
-use Rattle.particle.proofs.EncodeParts.{size-then, count-then, items-faithful, later-faithful}
+use Rattle.particle.proofs.EncodeParts.{count-then, items-faithful, later-faithful}
 use Rattle.particle.proofs.RoundTrip.{then-none}
 use Rattle.tidying.specs.declared.Kept.{Kept}
 use Rattle.tidying.specs.declared.Written.{Written}
@@ -22,7 +22,7 @@ use Rattle.tidying.specs.Laid.{tidied, Room, Laid, KeepsAfter, Closes, W
 use Rattle.tidying.proofs.Sizes.{keep-smaller, tidy-smaller}
 use Rattle.tidying.proofs.LaidTrees.{laid-none, laid-then, laid-within, laid-long}
 use Rattle.tidying.proofs.KeepStep.{keep-then}
-use Rattle.tidying.proofs.TreeStep.{tree-parts, tree-size, record-fits, record-is, tidied-group}
+use Rattle.tidying.proofs.TreeStep.{tree-size, record-fits, record-is, tidied-group}
 
 -- items in another order of brackets
 then-assoc : (x y z : Items) → (x then y) then z ≡ x then (y then z)

@@ -1,15 +1,14 @@
 -- Trees laid down one after another: what each write leaves, and what can be read there. Assumes nothing.
-use mathlib.Core.Path.{_≡_, refl, ap, sym, _∙_}
+use mathlib.Core.Path.{_≡_, ap, sym, _∙_}
 use mathlib.Core.List.{List, _++_, append-assoc, append-nil}
 use Prim.Native.Nat.{ℕ, _+_, _*_, _-_, _≤_}
 use native.Mathlib.Omega.{arith}
-use lib.ListN.{length, take, drop, length-take, length-drop, length-append, take-append-drop}
+use lib.ListN.{length, take, drop, length-take, length-append, take-append-drop}
 use lib.Seq.{take-take, drop-drop, take-add, take-at, drop-at, length-take-le}
 use Rattle.particle.specs.Record.{recordSize, recordAt, recordBytes}
 use Rattle.particle.specs.Tree.{Head, Items, none, item, _then_, countI, sizeI}
 use Rattle.particle.specs.Encode.{recordOf, encode}
 use Rattle.particle.specs.Write.{overwrite}
-use Rattle.particle.proofs.Laws.{part-is}
 use Rattle.particle.proofs.RoundTrip.{record-bytes}
 use Rattle.particle.proofs.ItemEncodes.{length-encode}
 use Rattle.particle.proofs.EncodeParts.{size-then, encode-none, encode-item, encode-then}

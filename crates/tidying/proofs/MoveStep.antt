@@ -1,10 +1,10 @@
 -- The loop of `remove_record`: the bytes after a record, moved over it one by one. Assumes nothing.
 use mathlib.Core.Path.{_≡_, ap, sym, _∙_}
 use mathlib.Core.List.{List}
-use Prim.Native.Nat.{ℕ, suc, _+_, _-_, _≤_, _<_}
+use Prim.Native.Nat.{ℕ, _+_, _-_, _≤_, _<_}
 use native.Mathlib.Numerals.{add-one}
 use native.Mathlib.Omega.{arith}
-use lib.ListN.{length, take, drop, getD, set, length-drop}
+use lib.ListN.{length, drop, getD, set, length-drop}
 use lib.Seq.{getD-drop, paste, paste-zero, paste-suc, length-paste, take-paste, drop-paste}
 use Rattle.particle.specs.Record.{recordSize}
 use Rattle.tidying.specs.Laid.{Removed}

@@ -10,7 +10,7 @@ use Rattle.particle.specs.declared.Record.{Record}
 use Rattle.particle.specs.Record.{recordAt}
 use Rattle.particle.specs.Tree.{Items, item, headFrom, headOf}
 use Rattle.particle.specs.Rows.{Row, row, laterPart}
-use Rattle.rules.specs.Verdicts.{Mark, undecided, fails, Leaves, Tables}
+use Rattle.rules.specs.Verdicts.{Mark, fails, Leaves, Tables}
 use Rattle.rules.specs.Combine.{_andThen_}
 use Rattle.rules.specs.Element.{elementRestrict}
 use Rattle.rules.specs.Walk.{absent, found, takeNamed, untaken, recurseUnordered}

@@ -1,5 +1,5 @@
 -- `exports::marker_emptiable` meets its contract. Assumes nothing.
-use mathlib.Core.Path.{_≡_, _∙_}
+use mathlib.Core.Path.{_∙_}
 use borrow.Author.Needs.{needs}
 use Rattle.entries.specs.Answer.{emptiableMeaning}
 use Rattle.exports.specs.Numbers.{emptiableNumber}

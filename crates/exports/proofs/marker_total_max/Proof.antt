@@ -1,8 +1,7 @@
 -- `exports::marker_total_max` meets its contract. Assumes nothing.
-use mathlib.Core.Path.{_≡_, ap, sym, _∙_}
+use mathlib.Core.Path.{ap, sym, _∙_}
 use Prim.Native.Nat.{ℕ, _+_}
 use borrow.Author.Needs.{needs}
-use Rattle.particle.specs.declared.MaxOccurs.{MaxOccurs}
 use Rattle.entries.specs.Answer.{totalMeaning}
 use Rattle.exports.specs.Numbers.{beyond, maxOccursNumber, maxNumber}
 use Rattle.exports.proofs.Means.{number-of}

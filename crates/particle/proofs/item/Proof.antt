@@ -1,11 +1,10 @@
 -- `particle::item` meets its contract. Assumes nothing.
 use mathlib.Core.Path.{_≡_, ap, _∙_}
-use mathlib.Core.List.{List}
 use Prim.Native.Nat.{ℕ, _-_, _+_, _≤_}
 use native.Mathlib.Omega.{arith}
 use borrow.Author.Needs.{needs}
 use lib.ListN.{length, take, drop, length-drop}
-use Rattle.particle.specs.Rows.{runSize, itemStart, itemRun}
+use Rattle.particle.specs.Rows.{runSize, itemRun}
 use Rattle.particle.proofs.Laws.{part-is, run-within}
 use Rattle.particle.proofs.item.Statement.{statement}
 use Rattle.particle.proofs.item.Tie as tie

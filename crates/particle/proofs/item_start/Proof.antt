@@ -3,7 +3,7 @@ use mathlib.Core.Path.{_≡_, ap, _∙_}
 use Prim.Native.Nat.{suc, _-_, _+_, _≤_}
 use native.Mathlib.Omega.{arith}
 use borrow.Author.Needs.{needs}
-use lib.ListN.{length, drop}
+use lib.ListN.{drop}
 use Rattle.particle.specs.Record.{recordAt}
 use Rattle.particle.specs.Rows.{runSize}
 use Rattle.particle.proofs.Laws.{part-is, row-le}

@@ -1,11 +1,8 @@
 -- `particle::later` meets its contract. Assumes nothing.
-use mathlib.Core.Path.{_≡_, ap, sym, _∙_, subst}
-use mathlib.Core.List.{List}
+use mathlib.Core.Path.{ap, _∙_}
 use Prim.Native.Nat.{ℕ, _≤_, _-_}
-use native.Mathlib.Omega.{arith}
 use borrow.Author.Needs.{needs}
-use lib.ListN.{length, take, drop}
-use Rattle.particle.specs.Rows.{runSize}
+use lib.ListN.{length, drop}
 use Rattle.particle.proofs.Laws.{part-is, run-within}
 use Rattle.particle.proofs.later.Statement.{statement}
 use Rattle.particle.proofs.later.Tie as tie

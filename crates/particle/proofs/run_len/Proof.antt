@@ -1,8 +1,8 @@
 -- `particle::run_len` meets its contract: at each turn one record is passed, and its items are awaited. Assumes nothing.
-use Prim.Native.Nat.{_-_, _+_, _≤_, _<_}
+use Prim.Native.Nat.{_-_, _+_, _≤_}
 use native.Mathlib.Omega.{arith}
-use lib.ListN.{length, drop}
-use Rattle.particle.specs.Record.{recordSize, recordAt}
+use lib.ListN.{length}
+use Rattle.particle.specs.Record.{recordSize}
 use Rattle.particle.proofs.Run.{Running, start, room, step, done}
 use Rattle.particle.proofs.run_len.Statement.{statement}
 use Rattle.particle.proofs.run_len.Tie as tie

@@ -2,7 +2,6 @@
 use mathlib.Core.Path.{refl}
 use Prim.Native.Nat.{_-_}
 use native.Mathlib.Omega.{arith}
-use borrow.Author.Needs.{needs}
 use Rattle.tidying.proofs.MoveStep.{Moved, move-start, same-size, move-next, move-done}
 use Rattle.tidying.proofs.remove_record.Statement.{statement}
 use Rattle.tidying.proofs.remove_record.Tie as tie

@@ -1,5 +1,5 @@
 -- `totals::emptiable` and `items_emptiable` meet their contracts. A call goes to a shorter part, or from a row to its first tree. Assumes nothing.
-use mathlib.Core.Path.{refl, ap, sym, _∙_}
+use mathlib.Core.Path.{refl, sym, _∙_}
 use Prim.Native.Nat.{ℕ, _<_}
 use native.Mathlib.Omega.{arith}
 use borrow.Author.Needs.{needs}
@@ -10,7 +10,7 @@ use Rattle.particle.proofs.later.Reads as later-reads
 use Rattle.particle.proofs.record_at.Reads as record-at-reads
 use Rattle.particle.proofs.Laws.{some-bytes}
 use Rattle.particle.proofs.Folds.{fold-none}
-use Rattle.totals.specs.Empty.{everyOrSome, emptiableFrom}
+use Rattle.totals.specs.Empty.{emptiableFrom}
 use Rattle.totals.proofs.Falls.{ofTree, ofRow, some-row, to-first, to-later, to-items}
 use Rattle.totals.proofs.Emptiness.{optional-tree, leaf-tree, empty-choice, choice-tree, ordered-tree, row-emptiable, none-decides, later-decide, first-decides}
 use Rattle.totals.proofs.emptiable.Reads as emptiable

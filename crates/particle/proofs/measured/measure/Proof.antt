@@ -1,7 +1,7 @@
 -- `measured::measure` meets its contract. Assumes nothing.
 use Prim.Native.Nat.{_+_, _-_}
 use native.Mathlib.Omega.{arith}
-use Rattle.particle.proofs.MeasureStep.{MeasuredFrom, measure-start, measure-done, record-long, measure-leaf, to-items, size-fits, measure-group}
+use Rattle.particle.proofs.MeasureStep.{MeasuredFrom, measure-start, measure-done, measure-leaf, to-items, size-fits, measure-group}
 use Rattle.particle.proofs.measured.measure.Statement.{statement}
 use Rattle.particle.proofs.measured.measure.Tie as tie
 
