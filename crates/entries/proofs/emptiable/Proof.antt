@@ -6,15 +6,6 @@ use Rattle.entries.proofs.Alone.{turned-away, taken, whole}
 use Rattle.entries.proofs.emptiable.Statement.{statement}
 use Rattle.entries.proofs.emptiable.Tie as tie
 
-check-alone-requires : tie.Need-check-alone-requires
-check-alone-requires c κs = search needs
-
-enum-known-f : tie.Need-enum-known-f
-enum-known-f c = search needs
-
-enum-told : tie.Need-enum-told
-enum-told c = search needs
-
 emptiable-requires : tie.Need-emptiable-requires
 emptiable-requires c κs = whole (c .before .before .before .before .args .t .now) (c .before .before .check-alone .ensures) (c .enum-told .given .1)
 
@@ -31,9 +22,9 @@ pub emptiable-spec : {M : Type 1} → statement M
 emptiable-spec =
     tie.close
     (tie.spec
-    check-alone-requires
-    enum-known-f
-    enum-told
+    (λ c κs. search needs)
+    (λ c. search needs)
+    (λ c. search needs)
     emptiable-requires
     returns
     returns-2

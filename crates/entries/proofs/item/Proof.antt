@@ -8,29 +8,11 @@ use Rattle.entries.proofs.Alone.{no-tree, no-item, an-item, whole, empt
 use Rattle.entries.proofs.item.Statement.{statement}
 use Rattle.entries.proofs.item.Tie as tie
 
-check-alone-requires : tie.Need-check-alone-requires
-check-alone-requires c κs = search needs
-
-enum-told : tie.Need-enum-told
-enum-told c = search needs
-
-slice-aggregate-result : tie.Need-slice-aggregate-result
-slice-aggregate-result c = search needs
-
 returns : tie.Need-returns
 returns c = empty-part _ _ refl refl (no-tree (c .before .before .before .before .before .args .t .now) (c .before .before .before .check-alone .ensures) (c .before .before .before .before .before .args .k) (c .before .enum-told .given .1))
 
-enum-told-2 : tie.Need-enum-told-2
-enum-told-2 c = search needs
-
 record-at-requires : tie.Need-record-at-requires
 record-at-requires c κs = some-bytes (whole (c .before .before .before .before .args .t .now) (c .before .before .check-alone .ensures) (c .enum-told2 .given .1))
-
-cast-n : tie.Need-cast-n
-cast-n c = search needs
-
-slice-aggregate-result-2 : tie.Need-slice-aggregate-result-2
-slice-aggregate-result-2 c = search needs
 
 returns-2 : tie.Need-returns-2
 returns-2 c =
@@ -56,14 +38,14 @@ pub item-spec : {M : Type 1} → statement M
 item-spec =
     tie.close
     (tie.spec
-    check-alone-requires
-    enum-told
-    slice-aggregate-result
+    (λ c κs. search needs)
+    (λ c. search needs)
+    (λ c. search needs)
     returns
-    enum-told-2
+    (λ c. search needs)
     record-at-requires
-    cast-n
-    slice-aggregate-result-2
+    (λ c. search needs)
+    (λ c. search needs)
     returns-2
     item-requires
     returns-3)

@@ -4,15 +4,6 @@ use Rattle.entries.proofs.Tidied.{not-read, too-short, asked, tidied}
 use Rattle.entries.proofs.tidy.Statement.{statement}
 use Rattle.entries.proofs.tidy.Tie as tie
 
-check-alone-requires : tie.Need-check-alone-requires
-check-alone-requires c κs = search needs
-
-enum-known-f : tie.Need-enum-known-f
-enum-known-f c = search needs
-
-enum-told : tie.Need-enum-told
-enum-told c = search needs
-
 returns : tie.Need-returns
 returns c = too-short (c .before .before .before .before .before .before .args .t .now) (c .before .before .before .before .before .before .args .out .now) (c .before .before .before .check-alone .ensures) (c .before .enum-told .given .1) (c .if1 .taken)
 
@@ -22,9 +13,6 @@ normalize-requires c κs = asked (c .before .before .before .before .before .bef
 returns-2 : tie.Need-returns-2
 returns-2 c = not-read (c .before .before .before .before .before .before .args .t .now) (c .before .before .before .before .before .before .args .out .now) (c .before .before .before .check-alone .ensures) (c .before .f .given .1)
 
-same-length : tie.Need-same-length
-same-length c = search needs
-
 returns-3 : tie.Need-returns-3
 returns-3 c = tidied (c .before .before .before .before .before .before .before .before .before .before .args .t .now) (c .before .before .before .before .before .before .before .before .before .before .args .out .now) (c .before .before .before .before .before .before .before .check-alone .ensures) (c .before .before .before .before .before .enum-told .given .1) _ _ (c .before .before .before .before .if1 .left) (c .before .before .normalize .ensures .0) (c .before .before .normalize .ensures .1)
 
@@ -32,11 +20,11 @@ pub tidy-spec : {M : Type 1} → statement M
 tidy-spec =
     tie.close
     (tie.spec
-    check-alone-requires
-    enum-known-f
-    enum-told
+    (λ c κs. search needs)
+    (λ c. search needs)
+    (λ c. search needs)
     returns
     normalize-requires
     returns-2
-    same-length
+    (λ c. search needs)
     returns-3)

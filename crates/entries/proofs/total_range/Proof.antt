@@ -6,15 +6,6 @@ use Rattle.entries.proofs.Alone.{turned-away, taken, whole}
 use Rattle.entries.proofs.total_range.Statement.{statement}
 use Rattle.entries.proofs.total_range.Tie as tie
 
-check-alone-requires : tie.Need-check-alone-requires
-check-alone-requires c κs = search needs
-
-enum-known-f : tie.Need-enum-known-f
-enum-known-f c = search needs
-
-enum-told : tie.Need-enum-told
-enum-told c = search needs
-
 effective-total-range-requires : tie.Need-effective-total-range-requires
 effective-total-range-requires c κs = whole (c .before .before .before .before .args .t .now) (c .before .before .check-alone .ensures) (c .enum-told .given .1)
 
@@ -28,9 +19,9 @@ pub total-range-spec : {M : Type 1} → statement M
 total-range-spec =
     tie.close
     (tie.spec
-    check-alone-requires
-    enum-known-f
-    enum-told
+    (λ c κs. search needs)
+    (λ c. search needs)
+    (λ c. search needs)
     effective-total-range-requires
     returns
     returns-2)

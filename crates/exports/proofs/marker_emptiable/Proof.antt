@@ -7,21 +7,6 @@ use Rattle.exports.proofs.Means.{number-of}
 use Rattle.exports.proofs.marker_emptiable.Statement.{statement}
 use Rattle.exports.proofs.marker_emptiable.Tie as tie
 
-emptiable-requires : tie.Need-emptiable-requires
-emptiable-requires c κs = search needs
-
-enum-told : tie.Need-enum-told
-enum-told c = search needs
-
-enum-told-2 : tie.Need-enum-told-2
-enum-told-2 c = search needs
-
-enum-known-r : tie.Need-enum-known-r
-enum-known-r c = search needs
-
-number-requires : tie.Need-number-requires
-number-requires c κs = search needs
-
 returns : tie.Need-returns
 returns c = number-of emptiableMeaning emptiableNumber (c .enum-told .given .1) (c .before .before .emptiable .ensures)
 
@@ -35,11 +20,11 @@ pub marker-emptiable-spec : {M : Type 1} → statement M
 marker-emptiable-spec =
     tie.close
     (tie.spec
-    emptiable-requires
-    enum-told
-    enum-told-2
-    enum-known-r
-    number-requires
+    (λ c κs. search needs)
+    (λ c. search needs)
+    (λ c. search needs)
+    (λ c. search needs)
+    (λ c κs. search needs)
     returns
     returns-2
     returns-3)

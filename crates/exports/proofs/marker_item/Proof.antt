@@ -9,15 +9,6 @@ use Rattle.exports.proofs.Means.{fits, too-long}
 use Rattle.exports.proofs.marker_item.Statement.{statement}
 use Rattle.exports.proofs.marker_item.Tie as tie
 
-item-requires : tie.Need-item-requires
-item-requires c κs = search needs
-
-copy-requires : tie.Need-copy-requires
-copy-requires c κs = search needs
-
-same-length : tie.Need-same-length
-same-length c = search needs
-
 returns : tie.Need-returns
 returns c =
     let out = c .before .before .before .before .before .before .before .before .args .out .now in
@@ -31,4 +22,4 @@ returns-2 c =
     (ap length e, too-long (c .before .item .result .now) out (c .if1 .left) ∙ ap (λ (s : List ℕ). written s out) e)
 
 pub marker-item-spec : {M : Type 1} → statement M
-marker-item-spec = tie.close (tie.spec item-requires copy-requires same-length returns returns-2)
+marker-item-spec = tie.close (tie.spec (λ c κs. search needs) (λ c κs. search needs) (λ c. search needs) returns returns-2)

@@ -29,27 +29,6 @@ number-most Verdict = omega arith
 number-most (Base f) = omega (arith, place-most f)
 number-most (Derived f) = omega (arith, place-most f)
 
-mark-requires : tie.Need-mark-requires
-mark-requires c κs = search needs
-
-enum-told : tie.Need-enum-told
-enum-told c = search needs
-
-enum-told-2 : tie.Need-enum-told-2
-enum-told-2 c = search needs
-
-enum-known-r : tie.Need-enum-known-r
-enum-known-r c = search needs
-
-reason-number-requires : tie.Need-reason-number-requires
-reason-number-requires c κs = search needs
-
-enum-known-r-2 : tie.Need-enum-known-r-2
-enum-known-r-2 c = search needs
-
-number-requires : tie.Need-number-requires
-number-requires c κs = search needs
-
 add-result : tie.Need-add-result
 add-result c = omega (arith, c .number .ensures, number-most (c .before .before .r2 .given .0 .0))
 
@@ -69,13 +48,13 @@ pub marker-mark-spec : {M : Type 1} → statement M
 marker-mark-spec =
     tie.close
     (tie.spec
-    mark-requires
-    enum-told
-    enum-told-2
-    enum-known-r
-    reason-number-requires
-    enum-known-r-2
-    number-requires
+    (λ c κs. search needs)
+    (λ c. search needs)
+    (λ c. search needs)
+    (λ c. search needs)
+    (λ c κs. search needs)
+    (λ c. search needs)
+    (λ c κs. search needs)
     add-result
     returns
     returns-2

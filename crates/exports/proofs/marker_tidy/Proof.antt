@@ -8,32 +8,8 @@ use Rattle.exports.proofs.Means.{number-of}
 use Rattle.exports.proofs.marker_tidy.Statement.{statement}
 use Rattle.exports.proofs.marker_tidy.Tie as tie
 
-tidy-requires : tie.Need-tidy-requires
-tidy-requires c κs = search needs
-
-enum-known-n : tie.Need-enum-known-n
-enum-known-n c = search needs
-
-enum-known-r : tie.Need-enum-known-r
-enum-known-r c = search needs
-
-number-requires : tie.Need-number-requires
-number-requires c κs = search needs
-
-cast-result : tie.Need-cast-result
-cast-result c = search needs
-
-add-result : tie.Need-add-result
-add-result c = search needs
-
-same-length : tie.Need-same-length
-same-length c = search needs
-
 returns : tie.Need-returns
 returns c = (number-of tidyMeaning countNumber (c .before .n .given .1) (c .before .before .before .before .before .tidy .ensures .0), c .before .before .before .before .before .tidy .ensures .1)
-
-same-length-2 : tie.Need-same-length-2
-same-length-2 c = search needs
 
 returns-2 : tie.Need-returns-2
 returns-2 c = (ap (λ (n : ℕ). beyond + n) (c .number .ensures) ∙ number-of tidyMeaning countNumber (c .before .before .r .given .1) (c .before .before .before .before .before .before .tidy .ensures .0), c .before .before .before .before .before .before .tidy .ensures .1)
@@ -42,13 +18,13 @@ pub marker-tidy-spec : {M : Type 1} → statement M
 marker-tidy-spec =
     tie.close
     (tie.spec
-    tidy-requires
-    enum-known-n
-    enum-known-r
-    number-requires
-    cast-result
-    add-result
-    same-length
+    (λ c κs. search needs)
+    (λ c. search needs)
+    (λ c. search needs)
+    (λ c κs. search needs)
+    (λ c. search needs)
+    (λ c. search needs)
+    (λ c. search needs)
     returns
-    same-length-2
+    (λ c. search needs)
     returns-2)

@@ -8,27 +8,6 @@ use Rattle.exports.proofs.Means.{number-of}
 use Rattle.exports.proofs.marker_total_min.Statement.{statement}
 use Rattle.exports.proofs.marker_total_min.Tie as tie
 
-total-range-requires : tie.Need-total-range-requires
-total-range-requires c κs = search needs
-
-enum-known-o : tie.Need-enum-known-o
-enum-known-o c = search needs
-
-cast-result : tie.Need-cast-result
-cast-result c = search needs
-
-enum-known-r : tie.Need-enum-known-r
-enum-known-r c = search needs
-
-number-requires : tie.Need-number-requires
-number-requires c κs = search needs
-
-cast-result-2 : tie.Need-cast-result-2
-cast-result-2 c = search needs
-
-add-result : tie.Need-add-result
-add-result c = search needs
-
 returns : tie.Need-returns
 returns c = number-of totalMeaning minNumber (c .before .before .o .given .1) (c .before .before .before .before .total-range .ensures)
 
@@ -39,12 +18,12 @@ pub marker-total-min-spec : {M : Type 1} → statement M
 marker-total-min-spec =
     tie.close
     (tie.spec
-    total-range-requires
-    enum-known-o
-    cast-result
-    enum-known-r
-    number-requires
-    cast-result-2
-    add-result
+    (λ c κs. search needs)
+    (λ c. search needs)
+    (λ c. search needs)
+    (λ c. search needs)
+    (λ c κs. search needs)
+    (λ c. search needs)
+    (λ c. search needs)
     returns
     returns-2)

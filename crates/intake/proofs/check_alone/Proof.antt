@@ -21,14 +21,8 @@ either n kind leaf = go (decLt leaf n)
         let g : n ≤ leaf = omega arith in
         rw (length-replicate, le-ltb leaf n g)
 
-slice-aggregate-check-tree : tie.Need-slice-aggregate-check-tree
-slice-aggregate-check-tree c = search needs
-
-check-tree-requires : tie.Need-check-tree-requires
-check-tree-requires c κs = search needs
-
 returns : tie.Need-returns
 returns c = c .check-tree .ensures ∙ ap (λ (known : Known). refusalIn known (c .before .before .before .args .t .now)) (fun-ext (λ kind. fun-ext (either 64 kind)))
 
 pub check-alone-spec : {M : Type 1} → statement M
-check-alone-spec = tie.close (tie.spec slice-aggregate-check-tree check-tree-requires returns)
+check-alone-spec = tie.close (tie.spec (λ c. search needs) (λ c κs. search needs) returns)

@@ -10,15 +10,6 @@ use Rattle.intake.proofs.Steps.{outcome, tests}
 use Rattle.intake.proofs.fault_of.Statement.{statement}
 use Rattle.intake.proofs.fault_of.Tie as tie
 
-fields-ok-requires : tie.Need-fields-ok-requires
-fields-ok-requires c κs = search needs
-
-pair-ok-requires : tie.Need-pair-ok-requires
-pair-ok-requires c κs = search needs
-
-all-ok-requires : tie.Need-all-ok-requires
-all-ok-requires c κs = search needs
-
 -- the fault, by what the tests found
 found :
     (c : tie.After-all-ok) {f p g s : Bool} →
@@ -51,9 +42,9 @@ pub fault-of-spec : {M : Type 1} → statement M
 fault-of-spec =
     tie.close
     (tie.spec
-    fields-ok-requires
-    pair-ok-requires
-    all-ok-requires
+    (λ c κs. search needs)
+    (λ c κs. search needs)
+    (λ c κs. search needs)
     returns
     returns-2
     returns-3

@@ -5,12 +5,6 @@ use borrow.Author.Tests.{le-leb, lt-leb}
 use Rattle.intake.proofs.fields_ok.Statement.{statement}
 use Rattle.intake.proofs.fields_ok.Tie as tie
 
-leaf-ok-requires : tie.Need-leaf-ok-requires
-leaf-ok-requires c κs = search needs
-
-bound-ok-requires : tie.Need-bound-ok-requires
-bound-ok-requires c κs = search needs
-
 returns : tie.Need-returns
 returns c = rw (le-leb _ _ (c .before .before .before .if1 .taken), sym (c .before .before .leaf-ok .ensures) ∙ c .before .if2 .taken) (c .bound-ok .ensures)
 
@@ -22,4 +16,4 @@ returns-3 c = rw (lt-leb _ _ (c .if1 .left))
 
 pub fields-ok-spec : {M : Type 1} → statement M
 fields-ok-spec =
-    tie.close (tie.spec leaf-ok-requires bound-ok-requires returns returns-2 returns-3)
+    tie.close (tie.spec (λ c κs. search needs) (λ c κs. search needs) returns returns-2 returns-3)

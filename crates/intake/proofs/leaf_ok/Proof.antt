@@ -5,9 +5,6 @@ use borrow.Author.Tests.{lt-ltb, le-ltb}
 use Rattle.intake.proofs.leaf_ok.Statement.{statement}
 use Rattle.intake.proofs.leaf_ok.Tie as tie
 
-is-listed-requires : tie.Need-is-listed-requires
-is-listed-requires c κs = search needs
-
 returns : tie.Need-returns
 returns c = rw (lt-ltb _ _ (c .before .before .before .if1 .taken), sym (c .before .before .is-listed .ensures) ∙ c .before .if2 .taken)
 
@@ -18,4 +15,4 @@ returns-3 : tie.Need-returns-3
 returns-3 c = rw (le-ltb _ _ (c .before .if1 .left))
 
 pub leaf-ok-spec : {M : Type 1} → statement M
-leaf-ok-spec = tie.close (tie.spec is-listed-requires returns returns-2 returns-3)
+leaf-ok-spec = tie.close (tie.spec (λ c κs. search needs) returns returns-2 returns-3)

@@ -7,26 +7,8 @@ use Rattle.marking.proofs.Marking.{turned-away, marked}
 use Rattle.marking.proofs.mark.Statement.{statement}
 use Rattle.marking.proofs.mark.Tie as tie
 
-check-requires : tie.Need-check-requires
-check-requires c κs = search needs
-
-enum-known-r : tie.Need-enum-known-r
-enum-known-r c = search needs
-
-enum-told : tie.Need-enum-told
-enum-told c = search needs
-
 mark-accepted-requires : tie.Need-mark-accepted-requires
 mark-accepted-requires c κs = sym (c .before .before .check .ensures) ∙ c .enum-told .given .1
-
-enum-told-2 : tie.Need-enum-told-2
-enum-told-2 c = search needs
-
-enum-told-3 : tie.Need-enum-told-3
-enum-told-3 c = search needs
-
-enum-known-r-2 : tie.Need-enum-known-r-2
-enum-known-r-2 c = search needs
 
 returns : tie.Need-returns
 returns c = turned-away (now (c .before .before .before .before .before .args .s)) (c .before .before .before .check .ensures) (c .before .r .given .1)
@@ -53,13 +35,13 @@ pub mark-spec : {M : Type 1} → statement M
 mark-spec =
     tie.close
     (tie.spec
-    check-requires
-    enum-known-r
-    enum-told
+    (λ c κs. search needs)
+    (λ c. search needs)
+    (λ c. search needs)
     mark-accepted-requires
-    enum-told-2
-    enum-told-3
-    enum-known-r-2
+    (λ c. search needs)
+    (λ c. search needs)
+    (λ c. search needs)
     returns
     returns-2
     returns-3

@@ -14,12 +14,6 @@ derived-requires c κs = passed _ (c .before .pre) .contents
 base-requires : tie.Need-base-requires
 base-requires c κs = passed _ (c .before .before .before .pre) .contents
 
-slice-aggregate-mark-in : tie.Need-slice-aggregate-mark-in
-slice-aggregate-mark-in c = search needs
-
-slice-aggregate-mark-in-2 : tie.Need-slice-aggregate-mark-in-2
-slice-aggregate-mark-in-2 c = search needs
-
 mark-in-requires : tie.Need-mark-in-requires
 mark-in-requires c κs =
     let b = c .before .before .before in
@@ -31,23 +25,11 @@ mark-in-requires c κs =
       ),
     )
 
-returns : tie.Need-returns
-returns c = search needs
-
-slice-aggregate-mark-in-3 : tie.Need-slice-aggregate-mark-in-3
-slice-aggregate-mark-in-3 c = search needs
-
-slice-aggregate-mark-in-4 : tie.Need-slice-aggregate-mark-in-4
-slice-aggregate-mark-in-4 c = search needs
-
 mark-in-requires-2 : tie.Need-mark-in-requires-2
 mark-in-requires-2 c κs =
     let pre = c .before .before .before .before .before .pre in
     let p = passed _ pre in
     (pre, (buffer _ refl (derived-few p) (omega arith), buffer _ refl (base-few p) (omega arith)))
-
-returns-2 : tie.Need-returns-2
-returns-2 c = search needs
 
 pub mark-accepted-spec : {M : Type 1} → statement M
 mark-accepted-spec =
@@ -55,11 +37,11 @@ mark-accepted-spec =
     (tie.spec
     derived-requires
     base-requires
-    slice-aggregate-mark-in
-    slice-aggregate-mark-in-2
+    (λ c. search needs)
+    (λ c. search needs)
     mark-in-requires
-    returns
-    slice-aggregate-mark-in-3
-    slice-aggregate-mark-in-4
+    (λ c. search needs)
+    (λ c. search needs)
+    (λ c. search needs)
     mark-in-requires-2
-    returns-2)
+    (λ c. search needs))

@@ -26,16 +26,10 @@ prepare-requires-2 c κs =
     let p = passed _ (pre .0) in
     rw (c .before .base .ensures) (base-row p, (base-faithful p, pre .1 .1))
 
-slice-reshare-prefix-mark-tidied : tie.Need-slice-reshare-prefix-mark-tidied
-slice-reshare-prefix-mark-tidied c = search needs
-
 slice-aggregate-mark-tidied : tie.Need-slice-aggregate-mark-tidied
 slice-aggregate-mark-tidied c =
     let d = c .before .before .before .before .before .before .before .before in
     part-length (d .prepare .ensures)
-
-slice-reshare-prefix-mark-tidied-2 : tie.Need-slice-reshare-prefix-mark-tidied-2
-slice-reshare-prefix-mark-tidied-2 c = search needs
 
 slice-aggregate-mark-tidied-2 : tie.Need-slice-aggregate-mark-tidied-2
 slice-aggregate-mark-tidied-2 c =
@@ -52,15 +46,6 @@ leaf-count-requires : tie.Need-leaf-count-requires
 leaf-count-requires c κs =
     let a = c .before .before .before .before .before .before .before .before .before .before .before .before .before .before .before .before .before in
     contents (now (a .args .s)) (passed (now (a .args .s)) (a .pre .0) .contents) .start
-
-mark-tidied-requires : tie.Need-mark-tidied-requires
-mark-tidied-requires c κs = search needs
-
-same-length : tie.Need-same-length
-same-length c = search needs
-
-same-length-2 : tie.Need-same-length-2
-same-length-2 c = search needs
 
 returns : tie.Need-returns
 returns c =
@@ -80,14 +65,14 @@ mark-in-spec =
     prepare-requires
     base-requires
     prepare-requires-2
-    slice-reshare-prefix-mark-tidied
+    (λ c. search needs)
     slice-aggregate-mark-tidied
-    slice-reshare-prefix-mark-tidied-2
+    (λ c. search needs)
     slice-aggregate-mark-tidied-2
     leaves-requires
     tables-requires
     leaf-count-requires
-    mark-tidied-requires
-    same-length
-    same-length-2
+    (λ c κs. search needs)
+    (λ c. search needs)
+    (λ c. search needs)
     returns)

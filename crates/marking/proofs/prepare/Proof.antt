@@ -7,12 +7,6 @@ use Rattle.marking.proofs.TidiedPart.{tidied-row, tidied-length, prepar
 use Rattle.marking.proofs.prepare.Statement.{statement}
 use Rattle.marking.proofs.prepare.Tie as tie
 
-normalize-in-requires : tie.Need-normalize-in-requires
-normalize-in-requires c κs = search needs
-
-slice-relend-prefix-measure : tie.Need-slice-relend-prefix-measure
-slice-relend-prefix-measure c = search needs
-
 slice-aggregate-measure : tie.Need-slice-aggregate-measure
 slice-aggregate-measure c = sym (tidied-length (now (c .before .before .before .before .before .before .before .args .t)) (c .before .before .before .normalize-in .ensures))
 
@@ -21,9 +15,6 @@ measure-requires c κs =
     let p = c .before .before .before .before .before .before .before in
     let e = c .before .before .before .normalize-in .ensures in
     (tidied-row (now (p .args .t)) e, omega (arith, tidied-length (now (p .args .t)) e, e .within, c .before .before .before .normalize-in .kept .1 .0, p .pre .1 .1 .most))
-
-same-length : tie.Need-same-length
-same-length c = search needs
 
 returns : tie.Need-returns
 returns c =
@@ -34,9 +25,9 @@ pub prepare-spec : {M : Type 1} → statement M
 prepare-spec =
     tie.close
     (tie.spec
-    normalize-in-requires
-    slice-relend-prefix-measure
+    (λ c κs. search needs)
+    (λ c. search needs)
     slice-aggregate-measure
     measure-requires
-    same-length
+    (λ c. search needs)
     returns)

@@ -7,12 +7,6 @@ use lib.Seq.{getD-drop}
 use Rattle.particle.proofs.count_at.Statement.{statement}
 use Rattle.particle.proofs.count_at.Tie as tie
 
-add-result : tie.Need-add-result
-add-result c = search needs
-
-shared-slice-read-result : tie.Need-shared-slice-read-result
-shared-slice-read-result c = search needs
-
 cast-result : tie.Need-cast-result
 cast-result c = omega (arith, c .shared-slice-known .given (c .before .args .at + 2))
 
@@ -20,4 +14,4 @@ returns : tie.Need-returns
 returns c = sym (getD-drop (c .before .args .at) (c .before .args .t .now) 2 0)
 
 pub count-at-spec : {M : Type 1} → statement M
-count-at-spec = tie.close (tie.spec add-result shared-slice-read-result cast-result returns)
+count-at-spec = tie.close (tie.spec (λ c. search needs) (λ c. search needs) cast-result returns)

@@ -9,18 +9,6 @@ use Rattle.particle.proofs.Laws.{part-is, run-within}
 use Rattle.particle.proofs.item.Statement.{statement}
 use Rattle.particle.proofs.item.Tie as tie
 
-item-start-requires : tie.Need-item-start-requires
-item-start-requires c κs = search needs
-
-sub-run-len : tie.Need-sub-run-len
-sub-run-len c = search needs
-
-part-run-len-start : tie.Need-part-run-len-start
-part-run-len-start c = search needs
-
-part-run-len-end : tie.Need-part-run-len-end
-part-run-len-end c = search needs
-
 run-len-requires : tie.Need-run-len-requires
 run-len-requires c κs = rw (part-is (c .before .before .before .args .t .now) (c .before .item-start .result)) (c .before .item-start .ensures .whole)
 
@@ -36,12 +24,6 @@ within c =
 
 add-end : tie.Need-add-end
 add-end c = omega (arith, within c)
-
-sub-result : tie.Need-sub-result
-sub-result c = search needs
-
-part-result-start : tie.Need-part-result-start
-part-result-start c = search needs
 
 part-result-end : tie.Need-part-result-end
 part-result-end c = within c
@@ -62,13 +44,13 @@ pub item-spec : {M : Type 1} → statement M
 item-spec =
     tie.close
     (tie.spec
-    item-start-requires
-    sub-run-len
-    part-run-len-start
-    part-run-len-end
+    (λ c κs. search needs)
+    (λ c. search needs)
+    (λ c. search needs)
+    (λ c. search needs)
     run-len-requires
     add-end
-    sub-result
-    part-result-start
+    (λ c. search needs)
+    (λ c. search needs)
     part-result-end
     returns)

@@ -32,9 +32,6 @@ sub-run-len c = c .before .loop .inv .0 .within
 part-run-len-start : tie.Need-part-run-len-start Inv-loop μ-loop
 part-run-len-start c = c .before .loop .inv .0 .within
 
-part-run-len-end : tie.Need-part-run-len-end Inv-loop μ-loop
-part-run-len-end c = search needs
-
 run-len-requires : tie.Need-run-len-requires Inv-loop μ-loop
 run-len-requires c κs = rw (part-is (c .before .before .before .before .args .t .now) (c .before .before .loop .at)) (row-le (omega arith) (here (c .before) .left))
 
@@ -73,7 +70,7 @@ item-start-spec =
     loop-holds
     sub-run-len
     part-run-len-start
-    part-run-len-end
+    (λ c. search needs)
     run-len-requires
     add-at
     add-i

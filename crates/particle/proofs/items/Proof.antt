@@ -11,11 +11,8 @@ sub-result c = some-bytes (c .pre)
 part-result-start : tie.Need-part-result-start
 part-result-start c = some-bytes (c .pre)
 
-part-result-end : tie.Need-part-result-end
-part-result-end c = search needs
-
 returns : tie.Need-returns
 returns c = part-is (c .before .args .t .now) recordSize
 
 pub items-spec : {M : Type 1} → statement M
-items-spec = tie.close (tie.spec sub-result part-result-start part-result-end returns)
+items-spec = tie.close (tie.spec sub-result part-result-start (λ c. search needs) returns)

@@ -7,9 +7,6 @@ use Rattle.particle.proofs.Laws.{part-is, run-within}
 use Rattle.particle.proofs.later.Statement.{statement}
 use Rattle.particle.proofs.later.Tie as tie
 
-run-len-requires : tie.Need-run-len-requires
-run-len-requires c κs = search needs
-
 within : (c : tie.After-run-len) → c .run-len .result ≤ length (c .before .before .args .t .now)
 within c = rw (c .run-len .ensures) (run-within (c .before .before .args .t .now))
 
@@ -19,11 +16,8 @@ sub-result c = within c
 part-result-start : tie.Need-part-result-start
 part-result-start c = within c
 
-part-result-end : tie.Need-part-result-end
-part-result-end c = search needs
-
 returns : tie.Need-returns
 returns c = part-is (c .before .before .before .args .t .now) (c .before .run-len .result) ∙ ap (λ (n : ℕ). drop n (c .before .before .before .args .t .now)) (c .before .run-len .ensures)
 
 pub later-spec : {M : Type 1} → statement M
-later-spec = tie.close (tie.spec run-len-requires sub-result part-result-start part-result-end returns)
+later-spec = tie.close (tie.spec (λ c κs. search needs) sub-result part-result-start (λ c. search needs) returns)

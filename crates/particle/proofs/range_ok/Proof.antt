@@ -14,18 +14,6 @@ use Rattle.particle.proofs.range_ok.Tie as tie
 returns : tie.Need-returns
 returns c = rw (lt-leb _ _ (c .if1 .taken))
 
-enum-told : tie.Need-enum-told
-enum-told c = search needs
-
-enum-known-bmax : tie.Need-enum-known-bmax
-enum-known-bmax c = search needs
-
-enum-told-2 : tie.Need-enum-told-2
-enum-told-2 c = search needs
-
-enum-known-dmax : tie.Need-enum-known-dmax
-enum-known-dmax c = search needs
-
 -- past the minimum, the maxima decide
 past-min : (d b : Occurs) → b .min ≤ d .min → (m : MaxOccurs) → b .max ≡ m → (n : MaxOccurs) → d .max ≡ n → rangeOk d b ≡ maxOk n m
 past-min d b l m e n e′ = rw (le-leb _ _ l, e, e′)
@@ -54,10 +42,10 @@ range-ok-spec =
     tie.close
     (tie.spec
     returns
-    enum-told
-    enum-known-bmax
-    enum-told-2
-    enum-known-dmax
+    (λ c. search needs)
+    (λ c. search needs)
+    (λ c. search needs)
+    (λ c. search needs)
     returns-2
     returns-3
     returns-4)

@@ -16,9 +16,6 @@ abbrev μ-loop : tie.MeasureT-loop
 loop-holds : tie.Need-loop-holds Inv-loop μ-loop
 loop-holds c = start _ (c .before .pre)
 
-sub-pending : tie.Need-sub-pending Inv-loop μ-loop
-sub-pending c = omega arith
-
 -- in a turn, a whole record is left
 left : (c : tie.In-loop Inv-loop μ-loop) → c .before .loop .at + recordSize ≤ length (c .before .before .before .args .t .now)
 left c = omega (arith, room _ _ _ (c .before .loop .inv), c .loop-test .taken)
@@ -52,7 +49,7 @@ run-len-spec =
     Inv-loop
     μ-loop
     loop-holds
-    sub-pending
+    (λ c. omega arith)
     count-at-requires
     add-pending
     add-at

@@ -25,13 +25,10 @@ sub-result c = within _ _ (c .pre)
 part-result-start : tie.Need-part-result-start
 part-result-start c = within _ _ (c .pre)
 
-part-result-end : tie.Need-part-result-end
-part-result-end c = search needs
-
 returns : tie.Need-returns
 returns c =
     let a = c .before .args in
     ap records (part-is (a .t .now) (a .n * recordSize) ∙ ap (λ (k : ℕ). drop k (a .t .now)) (mul-comm (a .n) recordSize)) ∙ records-drop (a .n) (a .t .now)
 
 pub skip-spec : {M : Type 1} → statement M
-skip-spec = tie.close (tie.spec mul-at sub-result part-result-start part-result-end returns)
+skip-spec = tie.close (tie.spec mul-at sub-result part-result-start (λ c. search needs) returns)

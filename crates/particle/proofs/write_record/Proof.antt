@@ -11,35 +11,17 @@ use borrow.Author.Needs.{needs}
 use Rattle.particle.proofs.write_record.Statement.{statement}
 use Rattle.particle.proofs.write_record.Tie as tie
 
-slice-write-out : tie.Need-slice-write-out
-slice-write-out c = search needs
-
-add-out : tie.Need-add-out
-add-out c = search needs
-
 slice-write-out-2 : tie.Need-slice-write-out-2
 slice-write-out-2 c = simp length-set (omega arith)
-
-add-out-2 : tie.Need-add-out-2
-add-out-2 c = search needs
 
 slice-write-out-3 : tie.Need-slice-write-out-3
 slice-write-out-3 c = simp length-set (omega arith)
 
-add-out-3 : tie.Need-add-out-3
-add-out-3 c = search needs
-
 slice-write-out-4 : tie.Need-slice-write-out-4
 slice-write-out-4 c = simp length-set (omega arith)
 
-add-write-u32 : tie.Need-add-write-u32
-add-write-u32 c = search needs
-
 write-u32-requires : tie.Need-write-u32-requires
 write-u32-requires c κs = simp length-set (omega arith)
-
-add-write-u32-2 : tie.Need-add-write-u32-2
-add-write-u32-2 c = search needs
 
 write-u32-requires-2 : tie.Need-write-u32-requires-2
 write-u32-requires-2 c κs = omega (arith, simp length-set at (c .before .before .before .write-u32 .kept .0))
@@ -59,16 +41,16 @@ pub write-record-spec : {M : Type 1} → statement M
 write-record-spec =
     tie.close
     (tie.spec
-    slice-write-out
-    add-out
+    (λ c. search needs)
+    (λ c. search needs)
     slice-write-out-2
-    add-out-2
+    (λ c. search needs)
     slice-write-out-3
-    add-out-3
+    (λ c. search needs)
     slice-write-out-4
-    add-write-u32
+    (λ c. search needs)
     write-u32-requires
-    add-write-u32-2
+    (λ c. search needs)
     write-u32-requires-2
     same-length
     returns)

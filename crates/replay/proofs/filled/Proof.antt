@@ -13,14 +13,8 @@ use Rattle.replay.proofs.filled.Tie as tie
 counts : {n : ℕ} (l : List ℕ) → n ≤ length l → Counts n l
 counts l h = (h, sym (length-take-le _ _ h))
 
-slice-relend-prefix-read-full : tie.Need-slice-relend-prefix-read-full
-slice-relend-prefix-read-full c = search needs
-
 slice-aggregate-read-full : tie.Need-slice-aggregate-read-full
 slice-aggregate-read-full c = counts _ (c .before .before .pre) .1
-
-read-full-requires : tie.Need-read-full-requires
-read-full-requires c κs = search needs
 
 same-length : tie.Need-same-length
 same-length c = search needs
@@ -32,8 +26,8 @@ pub filled-spec : {M : Type 1} → statement M
 filled-spec =
     tie.close
     (tie.spec
-    slice-relend-prefix-read-full
+    (λ c. search needs)
     slice-aggregate-read-full
-    read-full-requires
+    (λ c κs. search needs)
     same-length
     returns)

@@ -18,9 +18,6 @@ use Rattle.sheet.proofs.Refusing.{contents-refused, leaf-refused, verdi
 use Rattle.sheet.proofs.check.Statement.{statement}
 use Rattle.sheet.proofs.check.Tie as tie
 
-contents-ok-requires : tie.Need-contents-ok-requires
-contents-ok-requires c κs = search needs
-
 returns : tie.Need-returns
 returns c = contents-refused _ (failed (c .before .contents-ok .ensures) (c .if1 .taken))
 
@@ -30,9 +27,6 @@ sound c = passed (c .before .contents-ok .ensures) (c .if1 .left)
 
 leaf-count-requires : tie.Need-leaf-count-requires
 leaf-count-requires c κs = contents (c .before .before .before .args .s .now) (sound c) .start
-
-cast-n : tie.Need-cast-n
-cast-n c = search needs
 
 leaves-requires : tie.Need-leaves-requires
 leaves-requires c κs = sound (c .before)
@@ -46,9 +40,6 @@ enough c = rw (c .leaves .ensures, c .before .leaf-count .ensures) (le-of-eq (sy
 
 same : (c : tie.After-leaves) → leavesIn (c .before .leaf-count .result) (c .leaves .result .now) ≡ leafList (c .before .before .before .before .before .args .s .now)
 same c = rw (c .leaves .ensures, c .before .leaf-count .ensures)
-
-slice-aggregate-read-leaves : tie.Need-slice-aggregate-read-leaves
-slice-aggregate-read-leaves c = search needs
 
 read-leaves-requires : tie.Need-read-leaves-requires
 read-leaves-requires c κs = (enough (c .before), few (c .before))
@@ -68,9 +59,6 @@ returns-2 c = leaf-refused _ (sound (c .before .before .before .before .before .
 
 tables-requires : tie.Need-tables-requires
 tables-requires c κs = sound (c .before .before .before .before .before .before)
-
-verdicts-ok-requires : tie.Need-verdicts-ok-requires
-verdicts-ok-requires c κs = search needs
 
 -- past the leaves
 in-order : (c : tie.Else2) → leavesOk (leafList (c .before .before .before .before .before .before .before .before .before .args .s .now)) ≡ true
@@ -106,16 +94,16 @@ pub check-spec : {M : Type 1} → statement M
 check-spec =
     tie.close
     (tie.spec
-    contents-ok-requires
+    (λ c κs. search needs)
     returns
     leaf-count-requires
-    cast-n
+    (λ c. search needs)
     leaves-requires
-    slice-aggregate-read-leaves
+    (λ c. search needs)
     read-leaves-requires
     returns-2
     tables-requires
-    verdicts-ok-requires
+    (λ c κs. search needs)
     returns-3
     array-share-prefix-kinds
     slice-aggregate-check-trees

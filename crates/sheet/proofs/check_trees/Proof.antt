@@ -7,30 +7,6 @@ use Rattle.sheet.proofs.Refusing.{base-refused, derived-refused, trees-
 use Rattle.sheet.proofs.check_trees.Statement.{statement}
 use Rattle.sheet.proofs.check_trees.Tie as tie
 
-base-requires : tie.Need-base-requires
-base-requires c κs = search needs
-
-derived-requires : tie.Need-derived-requires
-derived-requires c κs = search needs
-
-check-tree-requires : tie.Need-check-tree-requires
-check-tree-requires c κs = search needs
-
-enum-known-f : tie.Need-enum-known-f
-enum-known-f c = search needs
-
-enum-told : tie.Need-enum-told
-enum-told c = search needs
-
-check-tree-requires-2 : tie.Need-check-tree-requires-2
-check-tree-requires-2 c κs = search needs
-
-enum-known-f-2 : tie.Need-enum-known-f-2
-enum-known-f-2 c = search needs
-
-enum-told-2 : tie.Need-enum-told-2
-enum-told-2 c = search needs
-
 -- what each check finds
 base : (c : tie.After-check-tree) → refusalIn (listed (c .before .before .before .before .before .args .kinds .now)) (basePart (c .before .before .before .before .before .args .s .now)) ≡ c .check-tree .result
 base c = sym (c .check-tree .ensures ∙ ap (refusalIn _) (c .before .before .base .ensures))
@@ -59,14 +35,14 @@ pub check-trees-spec : {M : Type 1} → statement M
 check-trees-spec =
     tie.close
     (tie.spec
-    base-requires
-    derived-requires
-    check-tree-requires
-    enum-known-f
-    enum-told
-    check-tree-requires-2
-    enum-known-f-2
-    enum-told-2
+    (λ c κs. search needs)
+    (λ c κs. search needs)
+    (λ c κs. search needs)
+    (λ c. search needs)
+    (λ c. search needs)
+    (λ c κs. search needs)
+    (λ c. search needs)
+    (λ c. search needs)
     returns
     returns-2
     returns-3)

@@ -9,54 +9,12 @@ use Rattle.tidying.proofs.CloseStep.{many, takes-place, takes-pair, sta
 use Rattle.tidying.proofs.close.Statement.{statement}
 use Rattle.tidying.proofs.close.Tie as tie
 
-once-requires : tie.Need-once-requires
-once-requires c κs = search needs
-
-remove-record-requires : tie.Need-remove-record-requires
-remove-record-requires c κs = search needs
-
-sub-result : tie.Need-sub-result
-sub-result c = search needs
-
-same-length : tie.Need-same-length
-same-length c = search needs
-
 returns : tie.Need-returns
 returns c before x l n a =
     let d = c .before .before .before .before in
     let p = d .before .before .before .before .before in
     takes-place (p .args .g) (p .pre .0) (p .args .kept) (p .args .at) l n a (d .before .before .if1 .taken) (sym (d .before .once .ensures) ∙ d .if2 .taken)
     (c .before .before .remove-record .ensures)
-
-add-first : tie.Need-add-first
-add-first c = search needs
-
-sub-record-at : tie.Need-sub-record-at
-sub-record-at c = search needs
-
-part-record-at-start : tie.Need-part-record-at-start
-part-record-at-start c = search needs
-
-part-record-at-end : tie.Need-part-record-at-end
-part-record-at-end c = search needs
-
-record-at-requires : tie.Need-record-at-requires
-record-at-requires c κs = search needs
-
-takes-pair-requires : tie.Need-takes-pair-requires
-takes-pair-requires c κs = search needs
-
-write-record-requires : tie.Need-write-record-requires
-write-record-requires c κs = search needs
-
-remove-record-requires-2 : tie.Need-remove-record-requires-2
-remove-record-requires-2 c κs = search needs
-
-sub-result-2 : tie.Need-sub-result-2
-sub-result-2 c = search needs
-
-same-length-2 : tie.Need-same-length-2
-same-length-2 c = search needs
 
 returns-2 : tie.Need-returns-2
 returns-2 c before x l n a =
@@ -70,15 +28,6 @@ returns-2 c before x l n a =
     (sym (d .before .takes-pair .ensures) ∙ d .if3 .taken)
     (c .before .before .before .before .before .before .write-record .ensures)
     (c .before .before .remove-record2 .ensures)
-
-cast-t28 : tie.Need-cast-t28
-cast-t28 c = search needs
-
-write-record-requires-2 : tie.Need-write-record-requires-2
-write-record-requires-2 c κs = search needs
-
-same-length-3 : tie.Need-same-length-3
-same-length-3 c = search needs
 
 returns-3 : tie.Need-returns-3
 returns-3 c before x l n a =
@@ -95,23 +44,23 @@ pub close-spec : {M : Type 1} → statement M
 close-spec =
     tie.close
     (tie.spec
-    once-requires
-    remove-record-requires
-    sub-result
-    same-length
+    (λ c κs. search needs)
+    (λ c κs. search needs)
+    (λ c. search needs)
+    (λ c. search needs)
     returns
-    add-first
-    sub-record-at
-    part-record-at-start
-    part-record-at-end
-    record-at-requires
-    takes-pair-requires
-    write-record-requires
-    remove-record-requires-2
-    sub-result-2
-    same-length-2
+    (λ c. search needs)
+    (λ c. search needs)
+    (λ c. search needs)
+    (λ c. search needs)
+    (λ c κs. search needs)
+    (λ c κs. search needs)
+    (λ c κs. search needs)
+    (λ c κs. search needs)
+    (λ c. search needs)
+    (λ c. search needs)
     returns-2
-    cast-t28
-    write-record-requires-2
-    same-length-3
+    (λ c. search needs)
+    (λ c κs. search needs)
+    (λ c. search needs)
     returns-3)

@@ -6,29 +6,17 @@ use Rattle.tidying.proofs.CopyStep.{in-out, run-length, run-fits, copie
 use Rattle.tidying.proofs.copy_tree.Statement.{statement}
 use Rattle.tidying.proofs.copy_tree.Tie as tie
 
-run-len-requires : tie.Need-run-len-requires
-run-len-requires c κs = search needs
-
 add-end : tie.Need-add-end
 add-end c = omega (arith, in-out (c .before .before .before .pre) (c .run-len .ensures))
 
 slice-aggregate-copy : tie.Need-slice-aggregate-copy
 slice-aggregate-copy c = run-length (c .before .before .before .before .pre) (c .before .run-len .ensures)
 
-sub-copy : tie.Need-sub-copy
-sub-copy c = search needs
-
-part-copy-start : tie.Need-part-copy-start
-part-copy-start c = search needs
-
 part-copy-end : tie.Need-part-copy-end
 part-copy-end c = in-out (c .before .before .before .before .pre) (c .before .run-len .ensures)
 
 copy-requires : tie.Need-copy-requires
 copy-requires c κs = run-fits (c .before .before .before .before .before .pre) (c .before .before .run-len .ensures)
-
-same-length : tie.Need-same-length
-same-length c = search needs
 
 returns : tie.Need-returns
 returns c =
@@ -43,12 +31,12 @@ pub copy-tree-spec : {M : Type 1} → statement M
 copy-tree-spec =
     tie.close
     (tie.spec
-    run-len-requires
+    (λ c κs. search needs)
     add-end
     slice-aggregate-copy
-    sub-copy
-    part-copy-start
+    (λ c. search needs)
+    (λ c. search needs)
     part-copy-end
     copy-requires
-    same-length
+    (λ c. search needs)
     returns)

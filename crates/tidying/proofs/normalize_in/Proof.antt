@@ -9,11 +9,8 @@ tidy-tree-requires c κs =
     let p = c .before .before .before .pre in
     whole-room (p .0) (p .1 .0) (p .1 .1 .0) (p .1 .1 .1)
 
-same-length : tie.Need-same-length
-same-length c = search needs
-
 returns : tie.Need-returns
 returns c = starts-with (c .before .before .tidy-tree .ensures)
 
 pub normalize-in-spec : {M : Type 1} → statement M
-normalize-in-spec = tie.close (tie.spec tidy-tree-requires same-length returns)
+normalize-in-spec = tie.close (tie.spec tidy-tree-requires (λ c. search needs) returns)

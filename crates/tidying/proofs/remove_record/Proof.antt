@@ -12,39 +12,18 @@ Inv-loop out₀ at end n i₀ out i = Moved out₀ at n out i
 abbrev μ-loop : tie.MeasureT-loop
 μ-loop out₀ at end n i₀ out i = n - i
 
-sub-n : tie.Need-sub-n Inv-loop μ-loop
-sub-n c = omega arith
-
-sub-n-2 : tie.Need-sub-n-2 Inv-loop μ-loop
-sub-n-2 c = omega arith
-
 loop-holds : tie.Need-loop-holds Inv-loop μ-loop
 loop-holds c = move-start (c .args .out .now) (c .args .at) _ (omega arith)
-
-add-out : tie.Need-add-out Inv-loop μ-loop
-add-out c = omega arith
-
-add-out-2 : tie.Need-add-out-2 Inv-loop μ-loop
-add-out-2 c = omega arith
 
 slice-read-out : tie.Need-slice-read-out Inv-loop μ-loop
 slice-read-out c =
     let a = c .before .before .before .args in
     omega (arith, same-size (a .out .now) (a .at) _ (omega arith) (c .before .before .loop .inv))
 
-add-out-3 : tie.Need-add-out-3 Inv-loop μ-loop
-add-out-3 c = omega arith
-
 slice-write-out : tie.Need-slice-write-out Inv-loop μ-loop
 slice-write-out c =
     let a = c .before .before .before .args in
     omega (arith, same-size (a .out .now) (a .at) _ (omega arith) (c .before .before .loop .inv))
-
-add-i : tie.Need-add-i Inv-loop μ-loop
-add-i c = omega arith
-
-loop-less : tie.Need-loop-less Inv-loop μ-loop
-loop-less c = omega arith
 
 loop-again : tie.Need-loop-again Inv-loop μ-loop
 loop-again c =
@@ -63,16 +42,16 @@ remove-record-spec =
     (tie.spec
     Inv-loop
     μ-loop
-    sub-n
-    sub-n-2
+    (λ c. omega arith)
+    (λ c. omega arith)
     loop-holds
-    add-out
-    add-out-2
+    (λ c. omega arith)
+    (λ c. omega arith)
     slice-read-out
-    add-out-3
+    (λ c. omega arith)
     slice-write-out
-    add-i
-    loop-less
+    (λ c. omega arith)
+    (λ c. omega arith)
     loop-again
     same-length
     returns)

@@ -6,9 +6,6 @@ use Rattle.tidying.proofs.KindTests.{splices-records}
 use Rattle.tidying.proofs.splices.Statement.{statement}
 use Rattle.tidying.proofs.splices.Tie as tie
 
-tidies-requires : tie.Need-tidies-requires
-tidies-requires c κs = search needs
-
 returns : tie.Need-returns
 returns c =
     let a = c .before .before .args in
@@ -20,9 +17,6 @@ returns-2 c =
     let a = d .before .args in
     rw (splices-records (a .g) (a .h), sym (d .tidies .ensures) ∙ not-false _ (c .before .before .before .if1 .left), ne-eqb _ _ (c .if2 .taken))
 
-once-requires : tie.Need-once-requires
-once-requires c κs = search needs
-
 returns-3 : tie.Need-returns-3
 returns-3 c =
     let d = c .before .before .before .before .before in
@@ -30,4 +24,4 @@ returns-3 c =
     rw (splices-records (a .g) (a .h), sym (d .tidies .ensures) ∙ not-false _ (c .before .before .before .before .if1 .left), eq-eqb _ _ (c .before .if2 .left)) (c .once .ensures)
 
 pub splices-spec : {M : Type 1} → statement M
-splices-spec = tie.close (tie.spec tidies-requires returns returns-2 once-requires returns-3)
+splices-spec = tie.close (tie.spec (λ c κs. search needs) returns returns-2 (λ c κs. search needs) returns-3)

@@ -15,13 +15,10 @@ returns-2 c =
     let a = c .before .before .before .before .args in
     rw (takes-records (a .g) (a .h), eq-eqb _ _ (c .before .before .if1 .left), ne-eqb _ _ (c .if2 .taken))
 
-once-requires : tie.Need-once-requires
-once-requires c κs = search needs
-
 returns-3 : tie.Need-returns-3
 returns-3 c =
     let a = c .before .before .before .before .before .args in
     rw (takes-records (a .g) (a .h), eq-eqb _ _ (c .before .before .before .if1 .left), eq-eqb _ _ (c .before .if2 .left)) (c .once .ensures)
 
 pub takes-pair-spec : {M : Type 1} → statement M
-takes-pair-spec = tie.close (tie.spec returns returns-2 once-requires returns-3)
+takes-pair-spec = tie.close (tie.spec returns returns-2 (λ c κs. search needs) returns-3)

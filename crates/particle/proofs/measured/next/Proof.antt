@@ -14,12 +14,6 @@ use Rattle.particle.proofs.measured.next.Tie as tie
 shared-slice-read-if1 : tie.Need-shared-slice-read-if1
 shared-slice-read-if1 c = omega (arith, some-bytes (c .before .before .pre .row))
 
-later-requires : tie.Need-later-requires
-later-requires c κs = search needs
-
-returns : tie.Need-returns
-returns c = search needs
-
 shared-slice-read-n : tie.Need-shared-slice-read-n
 shared-slice-read-n c = omega (arith, some-bytes (c .before .before .before .before .pre .row))
 
@@ -41,9 +35,6 @@ sub-result c = within c
 part-result-start : tie.Need-part-result-start
 part-result-start c = within c
 
-part-result-end : tie.Need-part-result-end
-part-result-end c = search needs
-
 returns-2 : tie.Need-returns-2
 returns-2 c =
     let t = c .before .before .before .before .before .args .t .now in
@@ -54,12 +45,12 @@ next-spec =
     tie.close
     (tie.spec
     shared-slice-read-if1
-    later-requires
-    returns
+    (λ c κs. search needs)
+    (λ c. search needs)
     shared-slice-read-n
     cast-n
     mul-n
     sub-result
     part-result-start
-    part-result-end
+    (λ c. search needs)
     returns-2)

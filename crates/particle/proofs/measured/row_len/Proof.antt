@@ -16,12 +16,6 @@ loop-holds c = row-start (c .before .pre)
 next-requires : tie.Need-next-requires Inv-loop μ-loop
 next-requires c κs = run-le (c .loop-test .taken) (c .before .loop .inv .trees)
 
-sub-left : tie.Need-sub-left Inv-loop μ-loop
-sub-left c = omega arith
-
-loop-less : tie.Need-loop-less Inv-loop μ-loop
-loop-less c = omega arith
-
 loop-again : tie.Need-loop-again Inv-loop μ-loop
 loop-again c = row-next (c .before .before .loop .inv) (c .before .loop-test .taken) (c .next .ensures)
 
@@ -39,8 +33,8 @@ row-len-spec =
     μ-loop
     loop-holds
     next-requires
-    sub-left
-    loop-less
+    (λ c. omega arith)
+    (λ c. omega arith)
     loop-again
     sub-result
     returns)

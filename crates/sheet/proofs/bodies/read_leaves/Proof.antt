@@ -16,20 +16,8 @@ abbrev μ-loop : tie.MeasureT-loop
 loop-holds : tie.Need-loop-holds Inv-loop μ-loop
 loop-holds c = leaves-start _ _ _
 
-leaf-at-requires : tie.Need-leaf-at-requires Inv-loop μ-loop
-leaf-at-requires c κs = omega arith
-
 slice-write-out : tie.Need-slice-write-out Inv-loop μ-loop
 slice-write-out c = omega (arith, c .before .before .loop .inv .same-size, c .before .before .before .before .before .pre .1)
-
-leaf-ok-requires : tie.Need-leaf-ok-requires Inv-loop μ-loop
-leaf-ok-requires c κs = search needs
-
-add-i : tie.Need-add-i Inv-loop μ-loop
-add-i c = omega arith
-
-loop-less : tie.Need-loop-less Inv-loop μ-loop
-loop-less c = omega arith
 
 loop-again : tie.Need-loop-again Inv-loop μ-loop
 loop-again c = leaf-next _ _ _ _ _ (c .before .before .before .loop .inv) (c .before .before .before .before .before .before .pre .1) (c .before .before .loop-test .taken) _ (c .before .leaf-at .ensures) _ (c .leaf-ok .ensures)
@@ -47,11 +35,11 @@ read-leaves-spec =
     Inv-loop
     μ-loop
     loop-holds
-    leaf-at-requires
+    (λ c κs. omega arith)
     slice-write-out
-    leaf-ok-requires
-    add-i
-    loop-less
+    (λ c κs. search needs)
+    (λ c. omega arith)
+    (λ c. omega arith)
     loop-again
     same-length
     returns)

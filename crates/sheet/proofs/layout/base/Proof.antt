@@ -18,9 +18,6 @@ leaf-count-requires c κs = sound (c .before) .start
 derived-count-requires : tie.Need-derived-count-requires
 derived-count-requires c κs = sound (c .before .before) .start
 
-base-at-requires : tie.Need-base-at-requires
-base-at-requires c κs = search needs
-
 start : (c : tie.After-base-at) → c .base-at .result ≡ baseAt (leafCount (c .before .before .before .before .args .s .now)) (derivedCount (c .before .before .before .before .args .s .now))
 start c = rw (c .base-at .ensures .0, c .before .derived-count .ensures, c .before .before .leaf-count .ensures)
 
@@ -29,9 +26,6 @@ sub-result c = omega (arith, start c, base-within (sound (c .before .before .bef
 
 part-result-start : tie.Need-part-result-start
 part-result-start c = omega (arith, start c, base-within (sound (c .before .before .before .before)))
-
-part-result-end : tie.Need-part-result-end
-part-result-end c = search needs
 
 returns : tie.Need-returns
 returns c =
@@ -44,8 +38,8 @@ base-spec =
     (tie.spec
     leaf-count-requires
     derived-count-requires
-    base-at-requires
+    (λ c κs. search needs)
     sub-result
     part-result-start
-    part-result-end
+    (λ c. search needs)
     returns)

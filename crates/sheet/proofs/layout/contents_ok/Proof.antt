@@ -16,14 +16,8 @@ use Rattle.sheet.proofs.layout.contents_ok.Tie as tie
 returns : tie.Need-returns
 returns c = stops _ (lt-leb _ _ (c .if1 .taken))
 
-counts-ok-requires : tie.Need-counts-ok-requires
-counts-ok-requires c κs = search needs
-
 returns-2 : tie.Need-returns-2
 returns-2 c = goes (le-leb _ _ (c .before .before .if1 .left)) (stops _ (failed (c .before .counts-ok .ensures) (c .if2 .taken)))
-
-zero-byte-requires : tie.Need-zero-byte-requires
-zero-byte-requires c κs = search needs
 
 -- the sheet, its counts' test and what follows it
 sheet : tie.After-zero-byte → List ℕ
@@ -36,21 +30,6 @@ counted c e = goes (le-leb _ _ (c .before .before .before .if1 .left)) (goes (pa
 returns-3 : tie.Need-returns-3
 unfolding sheet
 returns-3 c = counted (c .before) (stops _ (ne-eqb _ _ (λ e. c .if3 .taken (c .before .zero-byte .ensures ∙ e))))
-
-leaf-count-requires : tie.Need-leaf-count-requires
-leaf-count-requires c κs = search needs
-
-derived-count-requires : tie.Need-derived-count-requires
-derived-count-requires c κs = search needs
-
-base-count-requires : tie.Need-base-count-requires
-base-count-requires c κs = search needs
-
-total-of-requires : tie.Need-total-of-requires
-total-of-requires c κs = search needs
-
-total-field-requires : tie.Need-total-field-requires
-total-field-requires c κs = search needs
 
 -- the length by the formula
 total : (c : tie.After-total-field) → c .before .total-of .result ≡ wholeLength (c .before .before .before .before .before .before .before .before .before .before .before .args .s .now)
@@ -76,14 +55,14 @@ contents-ok-spec =
     tie.close
     (tie.spec
     returns
-    counts-ok-requires
+    (λ c κs. search needs)
     returns-2
-    zero-byte-requires
+    (λ c κs. search needs)
     returns-3
-    leaf-count-requires
-    derived-count-requires
-    base-count-requires
-    total-of-requires
-    total-field-requires
+    (λ c κs. search needs)
+    (λ c κs. search needs)
+    (λ c κs. search needs)
+    (λ c κs. search needs)
+    (λ c κs. search needs)
     returns-4
     returns-5)

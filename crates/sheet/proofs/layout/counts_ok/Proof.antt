@@ -8,15 +8,6 @@ use Rattle.sheet.proofs.Tests.{stops, goes, failed, passed}
 use Rattle.sheet.proofs.layout.counts_ok.Statement.{statement}
 use Rattle.sheet.proofs.layout.counts_ok.Tie as tie
 
-leaf-count-requires : tie.Need-leaf-count-requires
-leaf-count-requires c κs = search needs
-
-cast-in-range : tie.Need-cast-in-range
-cast-in-range c = search needs
-
-in-range-requires : tie.Need-in-range-requires
-in-range-requires c κs = search needs
-
 -- what each test found
 leaves : (c : tie.After-in-range) → c .in-range .result ≡ inRange 1 maxLeaves (leafCount (c .before .before .before .args .s .now))
 leaves c = c .in-range .ensures ∙ ap (inRange 1 maxLeaves) (c .before .leaf-count .ensures)
@@ -24,29 +15,11 @@ leaves c = c .in-range .ensures ∙ ap (inRange 1 maxLeaves) (c .before .leaf-co
 returns : tie.Need-returns
 returns c = stops _ (failed (leaves (c .before)) (c .if1 .taken))
 
-derived-count-requires : tie.Need-derived-count-requires
-derived-count-requires c κs = search needs
-
-cast-in-range-2 : tie.Need-cast-in-range-2
-cast-in-range-2 c = search needs
-
-in-range-requires-2 : tie.Need-in-range-requires-2
-in-range-requires-2 c κs = search needs
-
 derived : (c : tie.After-in-range2) → c .in-range2 .result ≡ inRange 1 maxRecords (derivedCount (c .before .before .before .before .before .before .args .s .now))
 derived c = c .in-range2 .ensures ∙ ap (inRange 1 maxRecords) (c .before .derived-count .ensures)
 
 returns-2 : tie.Need-returns-2
 returns-2 c = goes (passed (leaves (c .before .before .before .before)) (c .before .before .before .if1 .left)) (stops _ (failed (derived (c .before)) (c .if2 .taken)))
-
-base-count-requires : tie.Need-base-count-requires
-base-count-requires c κs = search needs
-
-cast-in-range-3 : tie.Need-cast-in-range-3
-cast-in-range-3 c = search needs
-
-in-range-requires-3 : tie.Need-in-range-requires-3
-in-range-requires-3 c κs = search needs
 
 returns-3 : tie.Need-returns-3
 returns-3 c =
@@ -58,15 +31,15 @@ pub counts-ok-spec : {M : Type 1} → statement M
 counts-ok-spec =
     tie.close
     (tie.spec
-    leaf-count-requires
-    cast-in-range
-    in-range-requires
+    (λ c κs. search needs)
+    (λ c. search needs)
+    (λ c κs. search needs)
     returns
-    derived-count-requires
-    cast-in-range-2
-    in-range-requires-2
+    (λ c κs. search needs)
+    (λ c. search needs)
+    (λ c κs. search needs)
     returns-2
-    base-count-requires
-    cast-in-range-3
-    in-range-requires-3
+    (λ c κs. search needs)
+    (λ c. search needs)
+    (λ c κs. search needs)
     returns-3)

@@ -15,26 +15,14 @@ sound c = contents (c .args .s .now) (c .pre)
 leaf-count-requires : tie.Need-leaf-count-requires
 leaf-count-requires c κs = sound (c .before) .start
 
-derived-at-requires : tie.Need-derived-at-requires
-derived-at-requires c κs = search needs
-
 derived-count-requires : tie.Need-derived-count-requires
 derived-count-requires c κs = sound (c .before .before .before) .start
-
-base-at-requires : tie.Need-base-at-requires
-base-at-requires c κs = search needs
 
 start : (c : tie.After-base-at) → c .before .before .derived-at .result ≡ derivedAt (leafCount (c .before .before .before .before .before .args .s .now))
 start c = c .before .before .derived-at .ensures .0 ∙ ap derivedAt (c .before .before .before .leaf-count .ensures)
 
 end : (c : tie.After-base-at) → c .base-at .result ≡ baseAt (leafCount (c .before .before .before .before .before .args .s .now)) (derivedCount (c .before .before .before .before .before .args .s .now))
 end c = rw (c .base-at .ensures .0, c .before .derived-count .ensures, c .before .before .before .leaf-count .ensures)
-
-sub-result : tie.Need-sub-result
-sub-result c = search needs
-
-part-result-start : tie.Need-part-result-start
-part-result-start c = search needs
 
 part-result-end : tie.Need-part-result-end
 part-result-end c = omega (arith, end c, base-within (sound (c .before .before .before .before .before)))
@@ -49,10 +37,10 @@ derived-spec =
     tie.close
     (tie.spec
     leaf-count-requires
-    derived-at-requires
+    (λ c κs. search needs)
     derived-count-requires
-    base-at-requires
-    sub-result
-    part-result-start
+    (λ c κs. search needs)
+    (λ c. search needs)
+    (λ c. search needs)
     part-result-end
     returns)

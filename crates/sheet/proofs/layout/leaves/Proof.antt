@@ -15,17 +15,8 @@ sound c = contents (c .args .s .now) (c .pre)
 leaf-count-requires : tie.Need-leaf-count-requires
 leaf-count-requires c κs = sound (c .before) .start
 
-tables-at-requires : tie.Need-tables-at-requires
-tables-at-requires c κs = search needs
-
 end : (c : tie.After-tables-at) → c .tables-at .result ≡ tablesAt (leafCount (c .before .before .before .args .s .now))
 end c = c .tables-at .ensures ∙ ap tablesAt (c .before .leaf-count .ensures)
-
-sub-result : tie.Need-sub-result
-sub-result c = search needs
-
-part-result-start : tie.Need-part-result-start
-part-result-start c = search needs
 
 part-result-end : tie.Need-part-result-end
 part-result-end c = omega (arith, end c, tables-within (sound (c .before .before .before)))
@@ -40,8 +31,8 @@ leaves-spec =
     tie.close
     (tie.spec
     leaf-count-requires
-    tables-at-requires
-    sub-result
-    part-result-start
+    (λ c κs. search needs)
+    (λ c. search needs)
+    (λ c. search needs)
     part-result-end
     returns)

@@ -12,12 +12,6 @@ small m n l k =
     let k′ : n ≤ 255 = omega arith in
     omega (arith, mul-le-mul l′ k′)
 
-wide-requires : tie.Need-wide-requires
-wide-requires c κs = search needs
-
-wide-requires-2 : tie.Need-wide-requires-2
-wide-requires-2 c κs = search needs
-
 product-small : (c : tie.After-wide2) → c .before .wide .result * c .wide2 .result < 65536
 product-small c = small _ _ (c .before .wide .ensures .1) (c .wide2 .ensures .1)
 
@@ -28,4 +22,4 @@ returns : tie.Need-returns
 returns c = (rw (c .before .wide .ensures .0, c .wide2 .ensures .0), product-small c)
 
 pub square-spec : {M : Type 1} → statement M
-square-spec = tie.close (tie.spec wide-requires wide-requires-2 mul-result returns)
+square-spec = tie.close (tie.spec (λ c κs. search needs) (λ c κs. search needs) mul-result returns)

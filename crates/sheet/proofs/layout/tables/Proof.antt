@@ -14,23 +14,11 @@ sound c = contents (c .args .s .now) (c .pre)
 leaf-count-requires : tie.Need-leaf-count-requires
 leaf-count-requires c κs = sound (c .before) .start
 
-tables-at-requires : tie.Need-tables-at-requires
-tables-at-requires c κs = search needs
-
-derived-at-requires : tie.Need-derived-at-requires
-derived-at-requires c κs = search needs
-
 start : (c : tie.After-derived-at) → c .before .tables-at .result ≡ tablesAt (leafCount (c .before .before .before .before .args .s .now))
 start c = c .before .tables-at .ensures ∙ ap tablesAt (c .before .before .leaf-count .ensures)
 
 end : (c : tie.After-derived-at) → c .derived-at .result ≡ derivedAt (leafCount (c .before .before .before .before .args .s .now))
 end c = c .derived-at .ensures .0 ∙ ap derivedAt (c .before .before .leaf-count .ensures)
-
-sub-result : tie.Need-sub-result
-sub-result c = search needs
-
-part-result-start : tie.Need-part-result-start
-part-result-start c = search needs
 
 part-result-end : tie.Need-part-result-end
 part-result-end c = omega (arith, end c, derived-within (sound (c .before .before .before .before)))
@@ -45,9 +33,9 @@ tables-spec =
     tie.close
     (tie.spec
     leaf-count-requires
-    tables-at-requires
-    derived-at-requires
-    sub-result
-    part-result-start
+    (λ c κs. search needs)
+    (λ c κs. search needs)
+    (λ c. search needs)
+    (λ c. search needs)
     part-result-end
     returns)
