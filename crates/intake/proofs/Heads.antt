@@ -12,6 +12,7 @@ use Rattle.particle.specs.declared.Record.{Record}
 use Rattle.particle.specs.Record.{maxOf, rangeOf}
 use Rattle.particle.specs.Tree.{Head, element, wildcard, sequence, choice, all, Items, none, takeI, countI, pairOf, headFrom, headOf}
 use Rattle.particle.specs.Encode.{kindNumber, leafNumber, markNumber, maxNumber, recordOf}
+use Rattle.particle.proofs.Heads.{pair-kind, kind-capped}
 use Rattle.intake.specs.declared.Checked.the-variants.{Accepted}
 use Rattle.intake.specs.Faults.{Known, leafOk, boundOk, fieldsOk, faultOf}
 use Rattle.intake.specs.Accepted.{LeafFits, MaxFits, AllFits, MemberFits, isAll, RecordFits}
@@ -93,11 +94,7 @@ parts known r e =
     (s .0, s′ .0, s′ .1)
 
 kind-back : (k l : ℕ) (p : Occurs) → k ≤ 4 → kindNumber (headFrom k l p) ≡ k
-kind-back zero l p h = refl
-kind-back (suc zero) l p h = refl
-kind-back (suc (suc zero)) l p h = refl
-kind-back (suc (suc (suc zero))) l p h = refl
-kind-back (suc (suc (suc (suc k)))) l p h = omega arith
+kind-back k l p h = omega (arith, kind-capped k l p)
 
 group-leaf : (k l : ℕ) (b : Bool) → cond (ltb (suc (suc k)) 2) b (eqb l 0) ≡ true → 0 ≡ l
 group-leaf k l b e = sym (eqb-true l 0 (rw (le-ltb (suc (suc k)) 2 (omega arith)) at e))
@@ -108,13 +105,6 @@ leaf-back (suc zero) l p b e = refl
 leaf-back (suc (suc zero)) l p b e = group-leaf 0 l b e
 leaf-back (suc (suc (suc zero))) l p b e = group-leaf 1 l b e
 leaf-back (suc (suc (suc (suc k)))) l p b e = group-leaf (suc (suc k)) l b e
-
-pair-back : (k l : ℕ) (p : Occurs) → pairOf (headFrom k l p) ≡ p
-pair-back zero l p = refl
-pair-back (suc zero) l p = refl
-pair-back (suc (suc zero)) l p = refl
-pair-back (suc (suc (suc zero))) l p = refl
-pair-back (suc (suc (suc (suc k)))) l p = refl
 
 max-back : (u m : ℕ) → (eqb u 0 || (eqb u 1 && eqb m 0)) ≡ true → (markNumber (maxOf u m) ≡ u) × (maxNumber (maxOf u m) ≡ m)
 max-back zero m e = (refl, refl)
@@ -174,7 +164,7 @@ module _ (known : Known) (r : Record) (d : ℕ) (a : Bool) (e : faultOf known r 
   pub faithful : recordOf (headOf r) (r .count) ≡ r
   faithful =
       let fields = parts known r (clean known r d a e .0) in
-      let pair = pair-back (r .kind) (r .leaf) (rangeOf r) in
+      let pair = pair-kind (r .kind) (r .leaf) (rangeOf r) in
       let mark = max-back (r .unbounded) (r .max) (fields .2) in
       let kind = kind-back (r .kind) (r .leaf) (rangeOf r) (leb-true _ _ (fields .0)) in
       let leaf = leaf-back (r .kind) (r .leaf) (rangeOf r) _ (fields .1) in

@@ -9,6 +9,7 @@ pub mod ItemWalk
 pub mod RoundTrip
 pub mod ItemEncodes
 pub mod EncodeParts
+pub mod ByKind
 pub mod Heads
 pub mod Folds
 pub mod Every

@@ -2,7 +2,7 @@
 use mathlib.Core.Bool.{Bool, true, false}
 use mathlib.Core.List.{List}
 use mathlib.Core.Path.{_≡_, refl, sym, ap, _∙_}
-use Prim.Native.Nat.{ℕ, zero, suc, _+_, _*_, _≤_, _<_}
+use Prim.Native.Nat.{ℕ, _+_, _*_, _≤_, _<_}
 use native.Mathlib.Omega.{arith}
 use lib.Dec.{leb}
 use lib.ListN.{length}
@@ -14,6 +14,7 @@ use Rattle.particle.specs.Tree.{Head, element, wildcard, sequence, choice, Item
 use Rattle.particle.specs.Rows.{row, itemsPart}
 use Rattle.particle.specs.Runs.{Run}
 use Rattle.particle.specs.Encode.{kindNumber}
+use Rattle.particle.proofs.ByKind.{group-kind}
 use Rattle.particle.proofs.Laws.{tree-is, row-is, items-shorter}
 use Rattle.particle.proofs.Runs.{items-run}
 use Rattle.totals.specs.Total.{total}
@@ -186,11 +187,9 @@ module _ {leaves tables : List ℕ} {n : ℕ} {once any : Bool} {d b : List ℕ}
   -- a group against a wildcard
   group-rule : (i : ℕ) → 2 ≤ i → rule L T J (headFrom i (dr .leaf) p) di (wildcard (br .leaf) q) bi ≡ rangeOk (total (headFrom i (dr .leaf) p ⟦ di ⟧)) q orFails 113 andThen eachMember (λ x. J x (wildcard (br .leaf) anyNumber ⟦ bi ⟧)) di
   unfolding rule
-  group-rule zero h = absurd (omega arith)
-  group-rule (suc zero) h = absurd (omega arith)
-  group-rule (suc (suc zero)) h = refl
-  group-rule (suc (suc (suc zero))) h = refl
-  group-rule (suc (suc (suc (suc i)))) h = refl
+  group-rule i two =
+      group-kind (λ d′. rule L T J d′ di (wildcard (br .leaf) q) bi ≡ rangeOk (total (d′ ⟦ di ⟧)) q orFails 113 andThen eachMember (λ x. J x (wildcard (br .leaf) anyNumber ⟦ bi ⟧)) di)
+      (dr .leaf) p refl refl refl i two
 
   group-tree : (dk ≡ 0 → ⊥) → tree d ≡ headFrom dk (dr .leaf) p ⟦ di ⟧
   group-tree z = side-tree (S .derived) ∙ rw (derived-own z)

@@ -2,22 +2,19 @@
 use mathlib.Core.Bool.{Bool, true, false, _||_, Bool·beq, true≢false, false≢true}
 use mathlib.Core.List.{List, [], _∷_}
 use mathlib.Core.Path.{_≡_, refl, ap, _∙_}
-use Prim.Native.Nat.{ℕ, zero, suc, _-_, _≤_, _<_}
+use Prim.Native.Nat.{ℕ, _-_, _≤_, _<_}
 use borrow.Author.Tests.{ne-eqb}
 use Rattle.particle.specs.declared.Occurs.{Occurs}
 use Rattle.particle.specs.declared.Record.{Record}
 use Rattle.particle.specs.Record.{recordAt, rangeOf}
 use Rattle.particle.specs.Tree.{headFrom, fold, tree}
 use Rattle.particle.specs.Rows.{Row, row, itemsPart, laterPart}
+use Rattle.particle.proofs.ByKind.{any-kind}
 use Rattle.particle.proofs.Folds.{first-is, items-are, first-leaf, first-choice, first-ordered, fold-none, fold-some}
 use Rattle.totals.specs.Empty.{every, some, everyOrSome, isEmpty, optional, emptiableFrom, emptiable}
 
 optional-from : (k l : ℕ) (p : Occurs) (es : List Bool) → p .min ≡ 0 → emptiableFrom (headFrom k l p) es ≡ true
-optional-from zero l p es z = rw z
-optional-from (suc zero) l p es z = rw z
-optional-from (suc (suc zero)) l p es z = rw z
-optional-from (suc (suc (suc zero))) l p es z = rw z
-optional-from (suc (suc (suc (suc k)))) l p es z = rw z
+optional-from k l p es z = any-kind (λ h. emptiableFrom h es ≡ true) l p (rw z) (rw z) (rw z) (rw z) (rw z) k
 
 -- a minimum above 0 leaves the rest to decide
 required : (p : Occurs) (e : Bool) → (p .min ≡ 0 → ⊥) → (optional p || e) ≡ e

@@ -5,11 +5,11 @@ use Prim.Native.Nat.{ℕ, zero, suc, _+_, _≤_}
 use native.Mathlib.Omega.{arith}
 use lib.ListN.{drop}
 use lib.Seq.{getD-drop}
-use Rattle.particle.specs.declared.Occurs.{Occurs}
 use Rattle.particle.specs.Record.{word, recordAt, maxOf, rangeOf}
-use Rattle.particle.specs.Tree.{Items, none, item, single, headFrom, headOf, tree}
+use Rattle.particle.specs.Tree.{Items, none, item, single, headOf, tree}
 use Rattle.particle.specs.Rows.{Row}
 use Rattle.particle.specs.Encode.{Bytes}
+use Rattle.particle.proofs.ByKind.{any-kind}
 use Rattle.particle.proofs.RoundTrip.{byte-at}
 use Rattle.particle.proofs.Every.{EachHead, each-tree}
 use Rattle.totals.specs.Total.{cap, total}
@@ -25,17 +25,11 @@ mark-32 : (mark n : ℕ) → n ≤ cap → Max32 (maxOf mark n)
 mark-32 zero n l = l
 mark-32 (suc mark) n l = tt
 
-head-32 : (k l : ℕ) (p : Occurs) → Pair32 p → Leaf32 (headFrom k l p)
-head-32 zero l p f = f
-head-32 (suc zero) l p f = f
-head-32 (suc (suc zero)) l p f = tt
-head-32 (suc (suc (suc zero))) l p f = tt
-head-32 (suc (suc (suc (suc k)))) l p f = tt
-
 record-32 : (t : List ℕ) → Bytes t → (n : ℕ) → Leaf32 (headOf (recordAt (drop n t)))
 record-32 t b n =
     let r = recordAt (drop n t) in
-    head-32 (r .kind) (r .leaf) (rangeOf r) (word-32 t b n 4, mark-32 (r .unbounded) (r .max) (word-32 t b n 8))
+    let own : Pair32 (rangeOf r) = (word-32 t b n 4, mark-32 (r .unbounded) (r .max) (word-32 t b n 8)) in
+    any-kind Leaf32 (r .leaf) (rangeOf r) own own tt tt tt (r .kind)
 
 leaves-32 : (x : Items) → EachHead Leaf32 x → Leaves32 x
 unfolding EachHead Leaves32

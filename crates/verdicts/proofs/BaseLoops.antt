@@ -18,7 +18,7 @@ use Rattle.rules.specs.Walk.{takeNamed, untaken}
 use Rattle.verdicts.specs.declared.unordered.Taken.{Taken}
 use Rattle.verdicts.specs.declared.unordered.Taken.the-variants.{Nothing, Element}
 use Rattle.verdicts.specs.Taken.{unmatched, hasName}
-use Rattle.verdicts.proofs.ByKind.{any-kind}
+use Rattle.particle.proofs.ByKind.{any-kind}
 use Rattle.verdicts.proofs.Rest.{Rest, begin, all-passed, row-here, next}
 use Rattle.verdicts.proofs.Flags.{unmatched-none, Answers, passed-by, taken-first, untaken-past, untaken-missing}
 

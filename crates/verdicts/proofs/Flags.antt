@@ -14,7 +14,7 @@ use Rattle.rules.specs.Walk.{found, behind, takeNamed, untaken}
 use Rattle.verdicts.specs.declared.unordered.Taken.{Taken}
 use Rattle.verdicts.specs.declared.unordered.Taken.the-variants.{Nothing, Element}
 use Rattle.verdicts.specs.Taken.{unmatched, hasName, foundOf}
-use Rattle.verdicts.proofs.ByKind.{any-kind, other-kind}
+use Rattle.particle.proofs.ByKind.{any-kind, other-kind}
 
 pub unmatched-none : (fs : List Bool) → unmatched fs none ≡ none
 unfolding unmatched

@@ -20,7 +20,7 @@ use Rattle.verdicts.specs.declared.Verdict.the-variants.{Ok, Unknown, Vi
 use Rattle.verdicts.specs.Reasons.{markOf, definiteOf}
 use Rattle.verdicts.specs.Taken.{unmatched, MemberMark}
 use Rattle.verdicts.proofs.Marks.{now-seen}
-use Rattle.verdicts.proofs.ByKind.{other-kind}
+use Rattle.particle.proofs.ByKind.{other-kind}
 use Rattle.verdicts.proofs.Rest.{Rest, begin, all-passed, row-here, next}
 use Rattle.verdicts.proofs.Flags.{none-taken}
 

@@ -1,19 +1,19 @@
 -- `restriction::kind_of` meets its contract. Assumes nothing.
 use native.Mathlib.Omega.{arith}
 use Rattle.particle.specs.Record.{rangeOf}
-use Rattle.restriction.proofs.Heads.{kind-below, kind-above}
+use Rattle.particle.proofs.Heads.{kind-capped}
 use Rattle.restriction.proofs.pairs.kind_of.Statement.{statement}
 use Rattle.restriction.proofs.pairs.kind_of.Tie as tie
 
 returns : tie.Need-returns
 returns c =
     let r = c .before .before .args .r in
-    (kind-below (r .leaf) (rangeOf r) (r .kind) (c .if1 .taken), omega arith)
+    (omega (arith, kind-capped (r .kind) (r .leaf) (rangeOf r)), omega arith)
 
 returns-2 : tie.Need-returns-2
 returns-2 c =
     let r = c .before .before .args .r in
-    (kind-above (r .leaf) (rangeOf r) (r .kind) (c .if1 .left), omega arith)
+    (omega (arith, kind-capped (r .kind) (r .leaf) (rangeOf r)), omega arith)
 
 pub kind-of-spec : {M : Type 1} → statement M
 kind-of-spec = tie.close (tie.spec returns returns-2)
