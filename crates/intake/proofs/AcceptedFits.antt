@@ -25,7 +25,8 @@ use Rattle.intake.proofs.Checking.{sized, scanned}
 use Rattle.intake.proofs.Heads as H
 use Rattle.intake.proofs.Heads.{all-kind, clean-fits}
 
-or-else : (c d : Checked) → orElse c d ≡ Accepted → (c ≡ Accepted) × (d ≡ Accepted)
+-- both are accepted
+pub or-else : (c d : Checked) → orElse c d ≡ Accepted → (c ≡ Accepted) × (d ≡ Accepted)
 or-else Accepted d e = (refl, e)
 or-else (Refused f) d e = absurd (refused e)
 

@@ -14,10 +14,10 @@ use Rattle.particle.specs.Tree.{Head, element, wildcard, sequence, choice, all,
 use Rattle.particle.specs.Encode.{kindNumber, leafNumber, markNumber, maxNumber, flat, encode, Bytes}
 use Rattle.particle.proofs.Trees.{countI-le}
 use Rattle.particle.proofs.Widths.{Widths, widths-append, widths-joined}
+use Rattle.particle.proofs.Tests.{and-true}
 use Rattle.intake.specs.Faults.{Known}
 use Rattle.intake.specs.Scan.{alone, listed}
 use Rattle.intake.specs.Accepted.{LeafFits, MaxFits, TreesFit, TreeFits, isAll}
-use Rattle.intake.proofs.Heads.{split}
 
 kind-width : (h : Head) → kindNumber h < 256
 kind-width (element l p) = omega arith
@@ -56,4 +56,4 @@ pub alone-low : (kind leaf : ℕ) → alone kind leaf ≡ true → leaf < 256
 alone-low kind leaf e = omega (arith, ltb-true leaf 64 e)
 
 pub listed-low : (kinds : List ℕ) → length kinds ≤ 256 → (kind leaf : ℕ) → listed kinds kind leaf ≡ true → leaf < 256
-listed-low kinds l kind leaf e = omega (arith, ltb-true leaf (length kinds) (split (ltb leaf (length kinds)) _ e .0))
+listed-low kinds l kind leaf e = omega (arith, ltb-true leaf (length kinds) (and-true (ltb leaf (length kinds)) _ e .0))

@@ -13,17 +13,11 @@ use Rattle.particle.specs.Record.{maxOf, rangeOf}
 use Rattle.particle.specs.Tree.{Head, element, wildcard, sequence, choice, all, Items, none, takeI, countI, pairOf, headFrom, headOf}
 use Rattle.particle.specs.Encode.{kindNumber, leafNumber, markNumber, maxNumber, recordOf}
 use Rattle.particle.proofs.Heads.{pair-kind, kind-capped}
+use Rattle.particle.proofs.Tests.{and-true, both-true}
 use Rattle.intake.specs.declared.Checked.the-variants.{Accepted}
 use Rattle.intake.specs.Faults.{Known, leafOk, boundOk, fieldsOk, faultOf}
 use Rattle.intake.specs.Accepted.{LeafFits, MaxFits, AllFits, MemberFits, isAll, RecordFits}
 use Rattle.intake.proofs.Steps.{tests, clean, shallow}
-
-both : {a b : Bool} → a ≡ true → b ≡ true → (a && b) ≡ true
-both p q = rw (p, q)
-
-pub split : (a b : Bool) → (a && b) ≡ true → (a ≡ true) × (b ≡ true)
-split true b e = (refl, e)
-split false b e = absurd (false≢true e)
 
 pub all-kind : (h : Head) → eqb (kindNumber h) 4 ≡ isAll h
 all-kind (element l p) = refl
@@ -80,17 +74,17 @@ fits-clean {known} {h} {k} {d} {a} f =
     (recordOf h (countI k))
     d
     a
-    (both (kind-ok h) (both (leaf-ok known h k (f .leaf)) (bound-ok (pairOf h .max))))
+    (both-true (kind-ok h) (both-true (leaf-ok known h k (f .leaf)) (bound-ok (pairOf h .max))))
     (pair-ok (pairOf h .min) (pairOf h .max) (f .pair))
-    (both (group-ok h (f .group)) (member-ok a h (f .member)))
+    (both-true (group-ok h (f .group)) (member-ok a h (f .member)))
     (le-leb d 12 (f .shallow)))
 
 -- From a record to its head ----------------------------------------------------
 
 parts : (known : Known) (r : Record) → fieldsOk known r ≡ true → (leb (r .kind) 4 ≡ true) × (leafOk known r ≡ true) × (boundOk r ≡ true)
 parts known r e =
-    let s = split (leb (r .kind) 4) (leafOk known r && boundOk r) e in
-    let s′ = split (leafOk known r) (boundOk r) (s .1) in
+    let s = and-true (leb (r .kind) 4) (leafOk known r && boundOk r) e in
+    let s′ = and-true (leafOk known r) (boundOk r) (s .1) in
     (s .0, s′ .0, s′ .1)
 
 kind-back : (k l : ℕ) (p : Occurs) → k ≤ 4 → kindNumber (headFrom k l p) ≡ k
@@ -114,7 +108,7 @@ max-back (suc (suc u)) m e = absurd (false≢true (rw (ne-eqb (suc (suc u)) 0 (�
 known-leaf : (b : Bool) (n : ℕ) (x : Items) → (b && eqb n 0) ≡ true → (b ≡ true) × (takeI n x ≡ none)
 unfolding takeI
 known-leaf b n x e =
-    let s = split b (eqb n 0) e in
+    let s = and-true b (eqb n 0) e in
     (s .0, ap (λ (k : ℕ). takeI k x) (eqb-true n 0 (s .1)))
 
 leaf-fits : (known : Known) (h : Head) (n : ℕ) (b : Items) → leafOk known (recordOf h n) ≡ true → LeafFits known h (takeI n b)
@@ -150,7 +144,7 @@ member-fits true (all p) e = false≢true e
 head-fits : (known : Known) (h : Head) (n : ℕ) (b : Items) (d : ℕ) (a : Bool) → faultOf known (recordOf h n) d a ≡ Accepted → pairOf h .min < 2 ^ 32 → maxNumber (pairOf h .max) < 2 ^ 32 → RecordFits known h (takeI n b) d a
 head-fits known h n b d a e hn hm =
     let c = clean known (recordOf h n) d a e in
-    let g = split _ (not a || eqb (kindNumber h) 0) (c .2) in
+    let g = and-true _ (not a || eqb (kindNumber h) 0) (c .2) in
     record {
       leaf = leaf-fits known h n b (parts known (recordOf h n) (c .0) .1);
       pair = max-fits (pairOf h .min) (pairOf h .max) hn hm (c .1);
@@ -191,6 +185,6 @@ pub not-in-all : (known : Known) (r : Record) (d : ℕ) (a : Bool) → faultOf k
 not-in-all known r d false e n = refl
 not-in-all known r d true e n =
     let c = clean known r d true e in
-    let kind = eqb-true (r .kind) 0 (split (not (eqb (r .kind) 4) || (eqb (r .unbounded) 0 && eqb (r .max) 1)) (eqb (r .kind) 0) (c .2) .1) in
+    let kind = eqb-true (r .kind) 0 (and-true (not (eqb (r .kind) 4) || (eqb (r .unbounded) 0 && eqb (r .max) 1)) (eqb (r .kind) 0) (c .2) .1) in
     let leaf = rw kind at (parts known r (c .0) .1) in
-    absurd (n (eqb-true (r .count) 0 (split (known 0 (r .leaf)) (eqb (r .count) 0) leaf .1)))
+    absurd (n (eqb-true (r .count) 0 (and-true (known 0 (r .leaf)) (eqb (r .count) 0) leaf .1)))

@@ -9,10 +9,10 @@ use borrow.Author.Tests.{eqb-true, eq-eqb}
 use Rattle.particle.specs.declared.Occurs.{Occurs}
 use Rattle.particle.specs.Tree.{Head, element, wildcard, sequence, choice, all, Items, none, item, Particle, pairOf, fold}
 use Rattle.particle.proofs.Folds.{Matches, ended, next, fold-matches}
+use Rattle.particle.proofs.Tests.{and-true, or-true, both-true, left-true, right-true}
 use Rattle.totals.specs.Empty.{every, some, isEmpty, optional, emptiableFrom, emptiable}
 use Rattle.language.specs.Language.{Words, InOrder, OneOf, Inserted, here, later, Blocks, joined, AnyOrder, AtMost, Rounds, Name, Names, wordsFrom, Allows}
 use Rattle.language.specs.Premises.{Every, Throughout, Ordered, NoEmptyChoice}
-use Rattle.language.proofs.Tests.{and-true, or-true, both-true, left-true, right-true}
 use Rattle.language.proofs.Rounds.{Many, no-round, empty-rounds, names-length}
 
 -- Emptiable trees allow the empty word --------------------------------------------
@@ -85,7 +85,7 @@ every-tells : {Ws : List Words} {es : List Bool} → Matches Tells Ws es → InO
 every-tells ended p = refl
 every-tells (next {a = W} {b = e} {xs = Ws} {ys = es} m ms) p =
     let (f, g) = append-empty (p .front) (p .back) (p .whole) in
-    both-true e (every es) (m (subst W f (p .left))) (every-tells ms (subst (InOrder Ws) (sym g) (p .right)))
+    both-true (m (subst W f (p .left))) (every-tells ms (subst (InOrder Ws) (sym g) (p .right)))
 
 some-tells : {Ws : List Words} {es : List Bool} → Matches Tells Ws es → OneOf Ws [] → some es ≡ true
 some-tells ended p = absurd p
@@ -103,7 +103,7 @@ blocks-tell : {Ws : List Words} {es : List Bool} → Matches Tells Ws es → (bs
 blocks-tell ended bs j b = refl
 blocks-tell (next {a = W} {b = e} {ys = es} m ms) bs j (u, others, i, x, rest) =
     let (f, g) = inserted-empty i j in
-    both-true e (every es) (m (subst W f x)) (blocks-tell ms others g rest)
+    both-true (m (subst W f x)) (blocks-tell ms others g rest)
 
 rounds-tell : (p : Occurs) (W : Words) (c : Bool) → (W [] → c ≡ true) → Rounds p W [] → (optional p || c) ≡ true
 rounds-tell p W c f r = go (r .number) (r .least) (r .rounds)

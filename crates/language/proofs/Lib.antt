@@ -1,4 +1,4 @@
-pub mod Tests
+pub mod AtMost
 pub mod Words
 pub mod Rounds
 pub mod Joining

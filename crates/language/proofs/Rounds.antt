@@ -12,8 +12,9 @@ use Rattle.particle.specs.declared.MaxOccurs.{MaxOccurs}
 use Rattle.particle.specs.declared.MaxOccurs.the-variants.{Bounded, Unbounded}
 use Rattle.particle.specs.declared.Occurs.{Occurs}
 use Rattle.particle.specs.Occurs.{maxOk, rangeOk, exactly, isOne, isOnce}
+use Rattle.particle.proofs.Tests.{and-true}
 use Rattle.language.specs.Language.{Words, InOrder, AtMost, Rounds, Name}
-use Rattle.language.proofs.Tests.{and-true, zero-most, at-most}
+use Rattle.language.proofs.AtMost.{zero-most, at-most}
 use Rattle.language.proofs.Words.{_⊆_, _≐_, followed-mono, in-order-append, in-order-one}
 
 -- n words of W, one after another

@@ -1,7 +1,7 @@
 -- What holds of each record without fault holds of each record of an accepted tree. Assumes nothing.
 use mathlib.Core.Bool.{Bool, false}
 use mathlib.Core.List.{List, [], _∷_}
-use mathlib.Core.Path.{_≡_, refl, sym, _∙_}
+use mathlib.Core.Path.{_≡_, sym, _∙_}
 use Prim.Native.Nat.{ℕ, suc, pred}
 use lib.Dec.{eqb}
 use lib.ListN.{length}
@@ -11,17 +11,12 @@ use Rattle.particle.proofs.Build.{decode-is}
 use Rattle.particle.proofs.Every.{OfRecords, each-records}
 use Rattle.language.specs.Premises.{Throughout}
 use Rattle.language.proofs.Premises.{throughout-heads}
-use Rattle.intake.specs.declared.Checked.{Checked}
-use Rattle.intake.specs.declared.Checked.the-variants.{Accepted, Refused}
+use Rattle.intake.specs.declared.Checked.the-variants.{Accepted}
 use Rattle.intake.specs.Faults.{Known, faultOf}
-use Rattle.intake.specs.Scan.{Level, level, waiting, orElse, stepped, scan, refusalIn}
+use Rattle.intake.specs.Scan.{Level, level, waiting, stepped, scan, refusalIn}
 use Rattle.intake.proofs.Steps.{refused}
 use Rattle.intake.proofs.Checking.{sized, scanned}
-use Rattle.intake.proofs.AcceptedFits.{accepted-decode}
-
-or-else : (c d : Checked) → orElse c d ≡ Accepted → (c ≡ Accepted) × (d ≡ Accepted)
-or-else Accepted d e = (refl, e)
-or-else (Refused f) d e = absurd (refused e)
+use Rattle.intake.proofs.AcceptedFits.{or-else, accepted-decode}
 
 module _ (known : Known) (P : Head → Type 0) (clean : (r : Record) (depth : ℕ) (inAll : Bool) → faultOf known r depth inAll ≡ Accepted → P (headOf r)) where
   at-record : (r : Record) (rs : List Record) → ((st : List Level) → scan known rs st ≡ Accepted → OfRecords P rs) → (st : List Level) → stepped known st r (λ st′. scan known rs st′) ≡ Accepted → OfRecords P (r ∷ rs)

@@ -14,6 +14,7 @@ use Rattle.particle.specs.declared.Record.{Record}
 use Rattle.particle.specs.Record.{maxOf, rangeOf}
 use Rattle.particle.specs.Tree.{pairOf, headFrom, headOf, tree}
 use Rattle.particle.proofs.Heads.{pair-record}
+use Rattle.particle.proofs.Tests.{and-true}
 use Rattle.language.specs.Language.{AtMost}
 use Rattle.rules.specs.Demand.{LeafKnown, Supposed}
 use Rattle.rules.proofs.Inclusion.{passes-includes}
@@ -21,7 +22,6 @@ use Rattle.intake.specs.declared.Checked.the-variants.{Accepted}
 use Rattle.intake.specs.Faults.{leafOk, boundOk, faultOf}
 use Rattle.intake.specs.Scan.{refusalIn}
 use Rattle.intake.proofs.Steps.{clean}
-use Rattle.intake.proofs.Heads.{split}
 use Rattle.verdicts.specs.Paper.{leafSize}
 use Rattle.sheet.specs.declared.bodies.Leaf.{Leaf}
 use Rattle.sheet.specs.Layout.{leafCount, leavesPart, derivedPart, basePart, leafAt, leavesIn}
@@ -46,9 +46,9 @@ kind-low l e = go (decLe (l .kind) 1)
 leaf-kind : (n : ℕ) (t : List ℕ) → every sheet.leafOk (leavesIn n t) ≡ true → (l : ℕ) → l < length (kindsOf (leavesIn n t)) → (l < n) × (getD (kindsOf (leavesIn n t)) l 0 ≡ getD t (leafSize * l) 0) × (getD t (leafSize * l) 0 ≤ 1)
 unfolding every kindsOf leavesIn
 leaf-kind zero t e l h = absurd (omega arith)
-leaf-kind (suc n) t e zero h = (omega arith, refl, kind-low (leafAt t) (split (sheet.leafOk (leafAt t)) _ e .0))
+leaf-kind (suc n) t e zero h = (omega arith, refl, kind-low (leafAt t) (and-true (sheet.leafOk (leafAt t)) _ e .0))
 leaf-kind (suc n) t e (suc l) h =
-    let i = leaf-kind n (drop leafSize t) (split (sheet.leafOk (leafAt t)) _ e .1) l (omega arith) in
+    let i = leaf-kind n (drop leafSize t) (and-true (sheet.leafOk (leafAt t)) _ e .1) l (omega arith) in
     let p : getD (drop leafSize t) (leafSize * l) 0 ≡ getD t (leafSize * suc l) 0 = getD-drop leafSize t (leafSize * l) 0 ∙ ap (λ (k : ℕ). getD t k 0) (omega arith) in
     (omega (arith, i .0), i .1 ∙ p, omega (arith, p, i .2))
 
@@ -63,16 +63,16 @@ module _ {s : List ℕ} (a : Passed s) where
   known-leaf : (kind l : ℕ) → knownIn s kind l ≡ true → (l < sheetLeaves s .count) × (getD (leavesPart s) (leafSize * l) 0 ≡ kind)
   known-leaf kind l e =
       let kinds = kindsOf (leavesIn (leafCount s) (leavesPart s)) in
-      let p = split (ltb l (length kinds)) (eqb (getD kinds l 0) 2 || eqb (getD kinds l 0) kind) e in
+      let p = and-true (ltb l (length kinds)) (eqb (getD kinds l 0) 2 || eqb (getD kinds l 0) kind) e in
       let k = leaf-kind (leafCount s) (leavesPart s) (a .leaves) l (ltb-true l (length kinds) (p .0)) in
       (omega (arith, k .0, leaves-count a), sym (k .1) ∙ of-kind (getD kinds l 0) kind (omega (arith, k .1, k .2)) (p .1))
 
   leaf-known : (k l : ℕ) (p : Occurs) (c d : Bool) → cond (ltb k 2) (knownIn s k l && c) d ≡ true → LeafKnown (sheetLeaves s) (headFrom k l p)
   leaf-known zero l p c d e =
-      let k = known-leaf 0 l (split (knownIn s 0 l) c e .0) in
+      let k = known-leaf 0 l (and-true (knownIn s 0 l) c e .0) in
       (k .0, rw (k .1))
   leaf-known (suc zero) l p c d e =
-      let k = known-leaf 1 l (split (knownIn s 1 l) c e .0) in
+      let k = known-leaf 1 l (and-true (knownIn s 1 l) c e .0) in
       (k .0, rw (k .1))
   leaf-known (suc (suc zero)) l p c d e = tt
   leaf-known (suc (suc (suc zero))) l p c d e = tt
@@ -80,8 +80,8 @@ module _ {s : List ℕ} (a : Passed s) where
 
   record-known : (r : Record) (depth : ℕ) (inAll : Bool) → faultOf (knownIn s) r depth inAll ≡ Accepted → LeafKnown (sheetLeaves s) (headOf r)
   record-known r depth inAll e =
-      let fields = split (leb (r .kind) 4) _ (clean (knownIn s) r depth inAll e .0) .1 in
-      leaf-known (r .kind) (r .leaf) (rangeOf r) (eqb (r .count) 0) (eqb (r .leaf) 0) (split (leafOk (knownIn s) r) (boundOk r) fields .0)
+      let fields = and-true (leb (r .kind) 4) _ (clean (knownIn s) r depth inAll e .0) .1 in
+      leaf-known (r .kind) (r .leaf) (rangeOf r) (eqb (r .count) 0) (eqb (r .leaf) 0) (and-true (leafOk (knownIn s) r) (boundOk r) fields .0)
 
   in-order : (mark min max : ℕ) → (eqb mark 1 || leb min max) ≡ true → AtMost min (maxOf mark max)
   in-order zero min max e = leb-true min max e

@@ -1,3 +1,4 @@
+pub mod Tests
 pub mod Records
 pub mod Store
 pub mod Trees

@@ -68,7 +68,7 @@ flat-build (r ∷ rs) c f = rw (countI-take (r .count) (build rs) (c .0), flat-s
 
 -- Records and bytes ------------------------------------------------------------
 
-quarters : (n : ℕ) → n % 256 + n / 256 % 256 * 256 + n / 65536 % 256 * 65536 + n / 16777216 * 16777216 ≡ n
+pub quarters : (n : ℕ) → n % 256 + n / 256 % 256 * 256 + n / 65536 % 256 * 65536 + n / 16777216 * 16777216 ≡ n
 quarters n = omega arith
 
 pub record-bytes : (r : Record) (t : List ℕ) → recordAt (recordBytes r ++ t) ≡ r

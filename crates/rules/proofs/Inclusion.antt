@@ -3,9 +3,9 @@ use mathlib.Core.Bool.{Bool, true, false, _||_}
 use mathlib.Core.Path.{_≡_, refl}
 use Rattle.particle.specs.Occurs.{isZero}
 use Rattle.particle.specs.Tree.{Particle, pairOf}
+use Rattle.particle.proofs.Tests.{and-true}
 use Rattle.totals.specs.Empty.{emptiable}
 use Rattle.language.specs.Premises.{Throughout, NoZeroMaximum, Ordered}
-use Rattle.language.proofs.Tests.{and-true}
 use Rattle.language.proofs.Premises.{throughout-both}
 use Rattle.tidying.specs.Tidy.{tidy}
 use Rattle.tidying.proofs.Steps.{zero-is}

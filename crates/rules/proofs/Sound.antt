@@ -14,15 +14,17 @@ use Rattle.particle.specs.declared.MaxOccurs.the-variants.{Bounded, Unbounded}
 use Rattle.particle.specs.declared.Occurs.{Occurs}
 use Rattle.particle.specs.Occurs.{maxOk, rangeOk, exactly}
 use Rattle.particle.specs.Tree.{Head, element, wildcard, sequence, choice, all, Items, none, item, Particle, countI, fold}
+use Rattle.particle.proofs.Tests.{and-true}
 use Rattle.totals.specs.Total.{capMin, total}
 use Rattle.language.specs.Language.{Words, OneOf, AtMost, Rounds, Name, Names, Allows}
 use Rattle.language.specs.Premises.{Every, Throughout}
-use Rattle.language.proofs.Tests.{and-true, at-most}
+use Rattle.language.proofs.AtMost.{at-most}
 use Rattle.language.proofs.Words.{_⊆_, in-order-one, one-of-one}
 use Rattle.language.proofs.Premises.{every-map}
 use Rattle.language.proofs.Rounds.{Many, many-mono, many-many, rounds-mono, one-round, only-round, names-length}
 use Rattle.language.proofs.Joining.{AllWithin, one-of-within, in-order-many, in-order-within, rounds-within, any-order-within, names-closed}
 use Rattle.language.proofs.Lengths.{Within, cap-most, total-length}
+use Rattle.tidying.proofs.Premises.{item-some}
 use Rattle.rules.specs.Verdicts.{Mark, Leaves, Tables}
 use Rattle.rules.specs.Combine.{_orFails_, _andThen_}
 use Rattle.rules.specs.Walk.{_⟦_⟧, Judge, recurseOrdered, alternatives, eachMember, recurseUnordered}
@@ -44,9 +46,6 @@ some-maximum e = let z : _≡_ {A = ℕ} 1 0 = cc in omega arith
 
 unbounded-maximum : ¬ (Unbounded ≡ Bounded 0)
 unbounded-maximum e = let z : _≡_ {A = ℕ} 0 1 = cc in omega arith
-
-some-item : (h : Head) (k r : Items) → ¬ (item h k r ≡ none)
-some-item h k r e = let z : _≡_ {A = ℕ} 0 1 = cc in omega arith
 
 -- as many names as the word is long, and its length within a pair within q
 names-in-range : (S : ℕ → Type 0) (t q : Occurs) → rangeOk t q ≡ true → (w : List ℕ) → Within (length w) t → Rounds anyNumber (Name S) w → Rounds q (Name S) w
@@ -166,7 +165,7 @@ module _ (L : Leaves) (T : Tables) (derived base : Names) (N : NamesAmong L T de
         rounds-mono h (λ w x. unordered-sound L T derived base N di bi ks (every-map (λ h k r. r .known) bi rs) s w (in-order-any (each derived di) w x))
     rule-sound (choice p) di (element m q) bi ks (R, rs) t =
         λ w x. out-of-choice base m q bi w
-        (S (choice p ⟦ di ⟧) (choice (exactly 1) ⟦ item (element m q) bi none ⟧) ks (record { known = tt; ordered = omega arith; nonzero = some-maximum; nonempty = some-item (element m q) bi none }, ((R, rs), tt)) t w x)
+        (S (choice p ⟦ di ⟧) (choice (exactly 1) ⟦ item (element m q) bi none ⟧) ks (record { known = tt; ordered = omega arith; nonzero = some-maximum; nonempty = item-some (element m q) bi none }, ((R, rs), tt)) t w x)
     rule-sound (choice p) di (wildcard m q) bi (K, ks) rs t =
         group-sound (choice p) di m q bi ks rs t (λ inside. rounds-within (names-closed (base m)) (one-of-within (each derived di) (Rounds anyNumber (Name (base m))) inside))
     rule-sound (choice p) di (sequence q) bi ks rs t = absurd t

@@ -6,12 +6,11 @@ use Prim.Native.Nat.{ℕ, zero, suc, _<_}
 use lib.Dec.{leb, eqb}
 use lib.ListN.{replicate}
 use Rattle.particle.specs.declared.Occurs.{Occurs}
-use Rattle.particle.specs.Occurs.{maxOk}
 use Rattle.particle.specs.Tree.{Head, element, wildcard, sequence, choice, all, Items, none, item, pairOf, fold}
+use Rattle.particle.proofs.Tests.{both-true}
 use Rattle.totals.specs.Empty.{optional}
 use Rattle.language.specs.Language.{InOrder, Inserted, here, later, Blocks, joined, AnyOrder, Rounds, Name, Names, wordsFrom}
 use Rattle.language.specs.Premises.{Every}
-use Rattle.language.proofs.Tests.{both-true}
 use Rattle.language.proofs.Words.{_⊆_, swap-inserted}
 use Rattle.language.proofs.Rounds.{rounds-mono}
 use Rattle.language.proofs.Emptiness.{optional-allows}
@@ -99,7 +98,7 @@ module _ (L : Leaves) (T : Tables) (derived base : Names) (N : NamesAmong L T de
       let (f, t₁) = and-passes (T .first l m) (leb (q .min) (p .min) orFails 122 andThen maxRestrict (p .max) (q .max) andThen T .second l m) t in
       let (lo, t₂) = guard-passes (leb (q .min) (p .min)) 122 (maxRestrict (p .max) (q .max) andThen T .second l m) t₁ in
       let (hi, s) = and-passes (maxRestrict (p .max) (q .max)) (T .second l m) t₂ in
-      rounds-mono (both-true (leb (q .min) (p .min)) (maxOk (p .max) (q .max)) lo (max-passes (p .max) (q .max) hi)) (element-names l m k e k′ e′ f s)
+      rounds-mono (both-true lo (max-passes (p .max) (q .max) hi)) (element-names l m k e k′ e′ f s)
 
   -- untaken elements give empty blocks
   untaken-blocks : (bs : Items) → Passes (untaken bs) → (n : ℕ) × Blocks (each base bs) (blanks n)

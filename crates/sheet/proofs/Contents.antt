@@ -9,7 +9,7 @@ use lib.ListN.{length, take, drop, length-drop}
 use lib.Seq.{length-take-le}
 use borrow.Author.Tests.{leb-true, le-leb, eqb-true, eq-eqb}
 use Rattle.particle.specs.Record.{recordSize, maxRecords}
-use Rattle.intake.proofs.Heads.{split}
+use Rattle.particle.proofs.Tests.{and-true}
 use Rattle.verdicts.specs.Paper.{leafSize}
 use Rattle.sheet.specs.Layout.{contentsSize, maxLeaves, leafCount, derivedCount, baseCount, zeroByte, totalField, tablesAt, derivedAt, baseAt, wholeLength, leavesPart, tablesPart, derivedPart, basePart}
 use Rattle.sheet.specs.Refused.{inRange, countsOk, contentsOk}
@@ -21,7 +21,7 @@ pub record Within (least most n : ℕ) : Type 0 where
 
 within : (least most n : ℕ) → inRange least most n ≡ true → Within least most n
 within least most n e =
-    let s = split (leb least n) (leb n most) e in
+    let s = and-true (leb least n) (leb n most) e in
     record { low = leb-true least n (s .0); high = leb-true n most (s .1) }
 
 -- the contents are in order, and the sheet is as long as they say
@@ -36,12 +36,12 @@ pub record Contents (s : List ℕ) : Type 0 where
 
 pub contents : (s : List ℕ) → contentsOk s ≡ true → Contents s
 contents s e =
-    let a = split (leb contentsSize (length s)) _ e in
-    let b = split (countsOk s) _ (a .1) in
-    let z = split (eqb (zeroByte s) 0) _ (b .1) in
-    let t = split (eqb (totalField s) (wholeLength s)) _ (z .1) in
-    let n = split (inRange 1 maxLeaves (leafCount s)) _ (b .0) in
-    let d = split (inRange 1 maxRecords (derivedCount s)) _ (n .1) in
+    let a = and-true (leb contentsSize (length s)) _ e in
+    let b = and-true (countsOk s) _ (a .1) in
+    let z = and-true (eqb (zeroByte s) 0) _ (b .1) in
+    let t = and-true (eqb (totalField s) (wholeLength s)) _ (z .1) in
+    let n = and-true (inRange 1 maxLeaves (leafCount s)) _ (b .0) in
+    let d = and-true (inRange 1 maxRecords (derivedCount s)) _ (n .1) in
     record {
       start = leb-true contentsSize (length s) (a .0);
       leaves = within _ _ _ (n .0);

@@ -1,13 +1,13 @@
 -- The contents and their bytes: reading undoes writing, and writing undoes reading. No other file of proofs says how the contents lie. Assumes nothing.
 use mathlib.Core.Path.{_≡_, refl, ap, sym, _∙_}
 use mathlib.Core.List.{List, _∷_, _++_}
-use Prim.Native.Nat.{ℕ, _+_, _*_, _/_, _%_, _≤_}
+use Prim.Native.Nat.{ℕ, _+_, _≤_}
 use native.Mathlib.Nat.{mul-le-mul}
 use native.Mathlib.Omega.{arith}
 use lib.ListN.{length, drop, getD}
 use Rattle.particle.specs.Record.{maxRecords, wordBytes}
 use Rattle.particle.specs.Encode.{Bytes}
-use Rattle.particle.proofs.RoundTrip.{from, from-drop, word-bytes, byte-at}
+use Rattle.particle.proofs.RoundTrip.{from, from-drop, quarters, word-bytes, byte-at}
 use Rattle.particle.proofs.Widths as widths
 use Rattle.sheet.specs.Layout.{contentsSize, maxLeaves, leafCount, derivedCount, baseCount, zeroByte, totalField, totalOf, wholeLength, contentsBytes}
 use Rattle.sheet.proofs.Contents.{Contents}
@@ -21,9 +21,6 @@ pub record Starts (s : List ℕ) (n d b : ℕ) (bodies : List ℕ) : Type 0 wher
   pub field : totalField s ≡ totalOf n d b
   pub after : drop contentsSize s ≡ bodies
   pub size : length s ≡ contentsSize + length bodies
-
-quarters : (n : ℕ) → n % 256 + n / 256 % 256 * 256 + n / 65536 % 256 * 65536 + n / 16777216 * 16777216 ≡ n
-quarters n = omega arith
 
 pub contents-back : (n d b : ℕ) (bodies : List ℕ) → Starts (contentsBytes n d b ++ bodies) n d b bodies
 contents-back n d b bodies = record {

@@ -1,6 +1,6 @@
 -- The tests of leaves and verdicts are document 01's conditions, and the leaves that the trees may name are those of the list. Assumes nothing.
 use mathlib.Core.Path.{_≡_, refl, fun-ext}
-use mathlib.Core.Bool.{Bool, true, false, _&&_, _||_}
+use mathlib.Core.Bool.{Bool, true, false, _&&_}
 use mathlib.Core.List.{List, [], _∷_, _++_}
 use mathlib.Core.Logic.{_⊎_, inl, inr, ⊎-elim}
 use Prim.Native.Nat.{ℕ, zero, suc, _+_, _^_, _<_}
@@ -10,8 +10,8 @@ use lib.ListN.{length, drop}
 use borrow.Author.Tests.{leb-true, le-leb, lt-leb, eqb-true, lt-ltb, le-ltb}
 use Rattle.particle.specs.Encode.{Bytes}
 use Rattle.particle.proofs.RoundTrip.{byte-at, bytes-drop}
+use Rattle.particle.proofs.Tests.{and-true, or-true}
 use Rattle.intake.specs.Scan.{listed}
-use Rattle.intake.proofs.Heads.{split}
 use Rattle.verdicts.specs.Paper.{leafSize}
 use Rattle.sheet.specs.declared.bodies.Leaf.{Leaf}
 use Rattle.sheet.specs.Layout.{leafAt, leavesIn}
@@ -25,7 +25,7 @@ module _ {A : Type 0} (ok : A → Bool) (P : A → Type 0) where
   unfolding every Each
   every-each f [] e = tt
   every-each f (x ∷ xs) e =
-      let s = split (ok x) (every ok xs) e in
+      let s = and-true (ok x) (every ok xs) e in
       (f x (s .0), every-each f xs (s .1))
 
   pub each-every : ((x : A) → P x → ok x ≡ true) → (xs : List A) → Each P xs → every ok xs ≡ true
@@ -46,14 +46,10 @@ module _ {A : Type 0} (P : A → Type 0) where
       let s = each-split xs ys (e .1) in
       ((e .0, s .0), s .1)
 
-either : (a b : Bool) → (a || b) ≡ true → (a ≡ true) ⊎ (b ≡ true)
-either true b e = inl refl
-either false b e = inr e
-
 -- Verdicts ---------------------------------------------------------------------
 
 pub verdict-fits : (v : ℕ) → verdictOk v ≡ true → VerdictFits v
-verdict-fits v e = ⊎-elim (λ a. inl (leb-true v 1 a)) (λ b. let s = split (leb 140 v) (leb v 152) b in inr (leb-true 140 v (s .0), leb-true v 152 (s .1))) (either (leb v 1) (inRange 140 152 v) e)
+verdict-fits v e = ⊎-elim (λ a. inl (leb-true v 1 a)) (λ b. let s = and-true (leb 140 v) (leb v 152) b in inr (leb-true 140 v (s .0), leb-true v 152 (s .1))) (or-true (leb v 1) (inRange 140 152 v) e)
 
 pub fits-verdict : (v : ℕ) → VerdictFits v → verdictOk v ≡ true
 fits-verdict v (inl l) = rw (le-leb v 1 l)
@@ -66,15 +62,15 @@ fits-verdict v (inr b) =
 pub leaf-fits : (l : Leaf) → leafOk l ≡ true → l .name < 2 ^ 16 → LeafFits l
 leaf-fits l e h =
     ⊎-elim
-    (λ a. let s = split (eqb (l .kind) 0) (eqb (l .process) 0) a in inl (eqb-true _ _ (s .0), eqb-true _ _ (s .1), h))
-    (λ b. let s = split (eqb (l .kind) 1) (leb (l .process) 2 && eqb (l .name) 0) b in let t = split (leb (l .process) 2) (eqb (l .name) 0) (s .1) in inr (eqb-true _ _ (s .0), leb-true _ _ (t .0), eqb-true _ _ (t .1)))
-    (either (eqb (l .kind) 0 && eqb (l .process) 0) (eqb (l .kind) 1 && (leb (l .process) 2 && eqb (l .name) 0)) e)
+    (λ a. let s = and-true (eqb (l .kind) 0) (eqb (l .process) 0) a in inl (eqb-true _ _ (s .0), eqb-true _ _ (s .1), h))
+    (λ b. let s = and-true (eqb (l .kind) 1) (leb (l .process) 2 && eqb (l .name) 0) b in let t = and-true (leb (l .process) 2) (eqb (l .name) 0) (s .1) in inr (eqb-true _ _ (s .0), leb-true _ _ (t .0), eqb-true _ _ (t .1)))
+    (or-true (eqb (l .kind) 0 && eqb (l .process) 0) (eqb (l .kind) 1 && (leb (l .process) 2 && eqb (l .name) 0)) e)
 
 pub leaves-fit : (n : ℕ) (t : List ℕ) → Bytes t → every leafOk (leavesIn n t) ≡ true → Each LeafFits (leavesIn n t)
 unfolding every Each leavesIn
 leaves-fit zero t b e = tt
 leaves-fit (suc n) t b e =
-    let s = split (leafOk (leafAt t)) (every leafOk (leavesIn n (drop leafSize t))) e in
+    let s = and-true (leafOk (leafAt t)) (every leafOk (leavesIn n (drop leafSize t))) e in
     (leaf-fits (leafAt t) (s .0) (omega (arith, byte-at t b 2, byte-at t b 3)), leaves-fit n (drop leafSize t) (bytes-drop leafSize t b) (s .1))
 
 pub fits-leaf : (l : Leaf) → LeafFits l → leafOk l ≡ true

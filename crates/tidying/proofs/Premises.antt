@@ -69,7 +69,7 @@ tidy-ordered = tidy-heads (λ h. Ordered h none) (λ p a b. a)
 
 -- No empty choice, where there is no zero maximum ------------------------------------------
 
-item-some : (h : Head) (k r : Items) → ¬ (item h k r ≡ none)
+pub item-some : (h : Head) (k r : Items) → ¬ (item h k r ≡ none)
 item-some h k r e = let z : _≡_ {A = ℕ} 0 1 = cc in omega arith
 
 then-some : (x y : Items) → ¬ (x ≡ none) → ¬ (x then y ≡ none)

@@ -8,26 +8,22 @@ use native.Mathlib.Numerals.{add-one}
 use native.Mathlib.Omega.{arith}
 use lib.ListN.{length, take, drop, getD, set}
 use lib.Seq.{drop-cons, take-suc, set-split}
-use Rattle.particle.specs.declared.Occurs.{Occurs}
 use Rattle.particle.specs.declared.Record.{Record}
 use Rattle.particle.specs.Record.{recordAt, rangeOf}
-use Rattle.particle.specs.Tree.{Items, headFrom, headOf, pairOf}
+use Rattle.particle.specs.Tree.{Items, headOf}
 use Rattle.particle.specs.Rows.{Row, row, laterPart}
+use Rattle.particle.proofs.Heads.{pair-kind}
 use Rattle.rules.specs.Verdicts.{Leaves, passes, fails}
 use Rattle.rules.specs.Walk.{takeNamed, untaken}
 use Rattle.verdicts.specs.declared.unordered.Taken.{Taken}
 use Rattle.verdicts.specs.declared.unordered.Taken.the-variants.{Nothing, Element}
 use Rattle.verdicts.specs.Taken.{unmatched, hasName}
-use Rattle.particle.proofs.ByKind.{any-kind}
 use Rattle.verdicts.proofs.Rest.{Rest, begin, all-passed, row-here, next}
 use Rattle.verdicts.proofs.Flags.{unmatched-none, Answers, passed-by, taken-first, untaken-past, untaken-missing}
 
 -- the flag at i and those after it
 flag-here : (fs : List Bool) (i : ℕ) → i < length fs → drop i fs ≡ getD fs i false ∷ drop (i + 1) fs
 flag-here fs i l = rw (add-one i) (drop-cons fs i false l)
-
-pair-of : (k l : ℕ) (p : Occurs) → pairOf (headFrom k l p) ≡ p
-pair-of k l p = any-kind (λ h. pairOf h ≡ p) l p refl refl refl refl refl k
 
 -- the first bn trees of bs, with a flag for each
 module _ (bs : List ℕ) (bn : ℕ) (fs : List Bool) where
@@ -81,10 +77,10 @@ module _ (bs : List ℕ) (bn : ℕ) (fs : List Bool) where
 
   module _ {rest : List ℕ} {i : ℕ} (g : Seeking rest i) (l : i < bn) (b : bn ≤ length fs) {r : Record} (q : r ≡ recordAt rest) where
     pub seek-on : (r .min ≡ 0) ⊎ (getD fs i false ≡ true) → {s : List ℕ} → s ≡ laterPart rest → Seeking s (i + 1)
-    seek-on o p = record { at = next (g .at) l p; same = g .same ∙ rw (row-here (g .at) l p q, flag-here fs i (omega arith)) (untaken-past _ _ _ (getD fs i false) _ (rw (pair-of (r .kind) (r .leaf) (rangeOf r)) o)) }
+    seek-on o p = record { at = next (g .at) l p; same = g .same ∙ rw (row-here (g .at) l p q, flag-here fs i (omega arith)) (untaken-past _ _ _ (getD fs i false) _ (rw (pair-kind (r .kind) (r .leaf) (rangeOf r)) o)) }
 
     pub missing-here : (r .min ≡ 0 → ⊥) → getD fs i false ≡ false → untaken (unmatched fs (row bn bs)) ≡ fails 109
-    missing-here z e = g .same ∙ rw (row-here (g .at) l refl q, flag-here fs i (omega arith)) (untaken-missing _ _ _ (getD fs i false) _ (rw (pair-of (r .kind) (r .leaf) (rangeOf r)) z) e)
+    missing-here z e = g .same ∙ rw (row-here (g .at) l refl q, flag-here fs i (omega arith)) (untaken-missing _ _ _ (getD fs i false) _ (rw (pair-kind (r .kind) (r .leaf) (rangeOf r)) z) e)
 
   pub none-missing : {rest : List ℕ} {i : ℕ} → Seeking rest i → bn ≤ i → untaken (unmatched fs (row bn bs)) ≡ passes
   unfolding untaken
