@@ -16,7 +16,7 @@ use Rattle.particle.proofs.Trees.{countI-le}
 use Rattle.particle.proofs.Widths.{Widths, widths-append, widths-joined}
 use Rattle.particle.proofs.Tests.{and-true}
 use Rattle.intake.specs.Faults.{Known}
-use Rattle.intake.specs.Scan.{alone, listed}
+use Rattle.intake.specs.Scan.{listed}
 use Rattle.intake.specs.Accepted.{LeafFits, MaxFits, TreesFit, TreeFits, isAll}
 
 kind-width : (h : Head) → kindNumber h < 256
@@ -51,9 +51,6 @@ module _ (known : Known) (low : (kind leaf : ℕ) → known kind leaf ≡ true �
   unfolding encode
   fits-bytes x f = widths-joined (flat (single x)) (widths-flat (single x) 1 _ (f .few) (f .each))
 
--- so it is for a tree alone, and for one with a leaf list
-pub alone-low : (kind leaf : ℕ) → alone kind leaf ≡ true → leaf < 256
-alone-low kind leaf e = omega (arith, ltb-true leaf 64 e)
-
+-- so it is with a leaf list
 pub listed-low : (kinds : List ℕ) → length kinds ≤ 256 → (kind leaf : ℕ) → listed kinds kind leaf ≡ true → leaf < 256
 listed-low kinds l kind leaf e = omega (arith, ltb-true leaf (length kinds) (and-true (ltb leaf (length kinds)) _ e .0))

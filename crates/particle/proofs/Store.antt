@@ -1,10 +1,10 @@
 -- Bytes stored one by one are the bytes of a number or a record, written over others. Assumes nothing.
 use mathlib.Core.Path.{_≡_, _∙_}
-use mathlib.Core.List.{List, [], _∷_, _++_, append-assoc}
+use mathlib.Core.List.{List, [], _∷_, append-assoc}
 use Prim.Native.Nat.{ℕ, _+_, _≤_}
 use native.Mathlib.Numerals.{towards-suc}
 use lib.ListN.{length, take, drop, set}
-use lib.Seq.{sets, sets-eq, drop-at, length-take-le}
+use lib.Seq.{sets, sets-eq}
 use Rattle.particle.specs.declared.Record.{Record}
 use Rattle.particle.specs.Record.{recordSize, wordBytes, recordBytes}
 use Rattle.particle.specs.Write.{overwrite}
@@ -20,8 +20,3 @@ unfolding overwrite
 record-stored l at r h =
     let e : sets l at (recordBytes r) ≡ overwrite at (recordBytes r) l = sets-eq (recordBytes r) l at h ∙ append-assoc (take at l) (recordBytes r) (drop (at + recordSize) l) in
     simp towards-suc e
-
--- from where they were written, the bytes and what follows them
-pub from-written : (at : ℕ) (bytes l : List ℕ) → at ≤ length l → drop at (overwrite at bytes l) ≡ bytes ++ drop (at + length bytes) l
-unfolding overwrite
-from-written at bytes l h = drop-at (take at l) (bytes ++ drop (at + length bytes) l) at (length-take-le at l h)
