@@ -2,7 +2,7 @@ pub mod Tests
 pub mod Contents
 pub mod ContentsBytes
 pub mod Loops
-pub mod Ranks
+pub mod Places
 pub mod Refusing
 pub mod LeafBytes
 pub mod Fitting

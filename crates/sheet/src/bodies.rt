@@ -1,15 +1,18 @@
 // The leaves and the tables: their check, and the leaves' kinds.
 ghost use mathlib.Core.Path.{_≡_};
-ghost use Prim.Native.Nat.{_+_, _*_, _≤_, min, max};
+ghost use mathlib.Core.Bool.{_||_};
+ghost use Prim.Native.Nat.{_+_, _*_, _≤_, max};
 ghost use lib.Dec.{leb};
 ghost use lib.ListN.{length, take, drop};
 ghost use Rattle.verdicts.specs.Paper.{leafSize};
 ghost use Rattle.sheet.specs.Layout.{leafAt, leavesIn};
-ghost use Rattle.sheet.specs.Refused.{inRange, leafOk, leavesOk, verdictOk, verdictsOk, kindsOf};
+ghost use Rattle.sheet.specs.Refused.{leafOk, leavesOk, verdictsOk, kindsOf};
 use verdicts::LEAF_SIZE;
 
-// The rank of a verdict is at most this.
-const LAST_RANK: u8 = 12;
+const LAST_VERDICT: u8 = 152;
+
+// The place of a verdict is at most this.
+const LAST_PLACE: u8 = 117;
 
 // One leaf, taken apart: kind, process contents, local name number.
 pub struct Leaf {
@@ -57,48 +60,31 @@ pub fn read_leaves(leaves: &[u8], n: usize, out: &mut [u8]) -> bool
     ok
 }
 
-fn lesser(a: u8, b: u8) -> u8
-    ensures { λ r. ⌜ r ≡ min a b ⌝ }
-{
-    if a < b { a } else { b }
-}
-
 fn greater(a: u8, b: u8) -> u8
     ensures { λ r. ⌜ r ≡ max a b ⌝ }
 {
     if a < b { b } else { a }
 }
 
-// At most LAST_RANK just for 0 and 1.
-fn low_rank(v: u8) -> u8
-    ensures { λ r. ⌜ leb r 12 ≡ leb v 1 ⌝ }
-{
-    if v <= 244 { v + 11 } else { 255 }
-}
-
-// At most LAST_RANK just for 140 to 152: v counted from 140 on, and from 0 on after 255.
-fn high_rank(v: u8) -> u8
-    ensures { λ r. ⌜ leb r 12 ≡ inRange 140 152 v ⌝ }
+// The place of v among the bytes from 140 on, where 0 follows 255: at most LAST_PLACE just for 140 to 255, 0 and 1.
+fn place(v: u8) -> u8
+    ensures { λ r. ⌜ leb r 117 ≡ (leb 140 v || leb v 1) ⌝ }
 {
     if v < 140 { v + 116 } else { v - 140 }
 }
 
-// At most LAST_RANK just for a verdict.
-fn rank(v: u8) -> u8
-    ensures { λ r. ⌜ leb r 12 ≡ verdictOk v ⌝ }
-{
-    lesser(low_rank(v), high_rank(v))
-}
-
-// Whether each verdict of the tables is in order. The largest rank decides: a rank takes fewer steps than a test, and many are taken at once.
+// Whether each verdict of the tables is in order. Two greatest numbers decide: that takes fewer steps than a test of each byte, and many bytes at once.
 pub fn verdicts_ok(tables: &[u8]) -> bool
     ensures { λ r. ⌜ r ≡ verdictsOk (now (tables .entry)) ⌝ }
 {
     let mut most: u8 = 0;
+    let mut place_most: u8 = 0;
     let mut i: usize = 0;
     while i < tables.len() {
-        most = greater(most, rank(tables[i]));
+        let v = tables[i];
+        most = greater(most, v);
+        place_most = greater(place_most, place(v));
         i += 1;
     }
-    most <= LAST_RANK
+    (most <= LAST_VERDICT) & (place_most <= LAST_PLACE)
 }
