@@ -19,7 +19,7 @@ marked (suc mark) n z = refl
 pub pair-kind : (k l : ℕ) (p : Occurs) → pairOf (headFrom k l p) ≡ p
 pair-kind k l p = any-kind (λ h. pairOf h ≡ p) l p refl refl refl refl refl k
 
--- a head's kind number is the number that it was made with, if that is one
+-- a head's kind number is the number that it was made with; above 4 it is 4
 pub kind-capped : (k l : ℕ) (p : Occurs) → kindNumber (headFrom k l p) ≡ min k 4
 kind-capped zero l p = refl
 kind-capped (suc zero) l p = refl

@@ -13,7 +13,7 @@ abbrev pub some : List Bool → Bool
 some [] = false
 some (e ∷ es) = e || some es
 
--- the one or the other
+-- whether each is true; without `each`, whether one is
 abbrev pub everyOrSome : (each : Bool) → List Bool → Bool
 everyOrSome true es = every es
 everyOrSome false es = some es
