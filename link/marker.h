@@ -34,8 +34,8 @@
  * STACK AND TIME. There is no heap. No contract bounds the stack: functions
  * call themselves, as deep as a tree has records, and a stack that is too small
  * ends the process. The tests, the longest sheet among them, run on a stack of
- * 128 KiB. No contract bounds the time either; the longest markings that we
- * know take less than a millisecond (docs/BENCHMARK.md, 'worst').
+ * 128 KiB. No contract bounds the time either; the longest marking that we know
+ * takes some 20 milliseconds (docs/BENCHMARK.md, 'longest known').
  */
 #ifndef MARKER_H
 #define MARKER_H

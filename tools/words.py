@@ -62,7 +62,7 @@ REFUSALS = {
 }
 for place, (fault, rule) in enumerate(TREE_FAULTS):
     REFUSALS[5 + place] = (f"{EXAMINER}base tree, {fault}", f"S4, {rule}")
-    REFUSALS[10 + place] = (f"{CANDIDATE}derived tree, {fault}", f"S4, {rule}")
+    REFUSALS[10 + place] = (f"{CANDIDATE}derived tree, or a tree alone, {fault}", f"S4, {rule}")
 
 
 def in_words(word, number):
