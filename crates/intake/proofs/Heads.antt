@@ -15,6 +15,7 @@ use Rattle.particle.specs.Encode.{kindNumber, leafNumber, markNumber, maxNumber
 use Rattle.particle.proofs.Heads.{pair-kind, kind-capped}
 use Rattle.particle.proofs.Tests.{and-true, both-true}
 use Rattle.intake.specs.declared.Checked.the-variants.{Accepted}
+use Rattle.intake.specs.Limits.{maxDepth}
 use Rattle.intake.specs.Faults.{Known, leafOk, boundOk, fieldsOk, faultOf}
 use Rattle.intake.specs.Accepted.{LeafFits, MaxFits, AllFits, MemberFits, isAll, RecordFits}
 use Rattle.intake.proofs.Steps.{tests, clean, shallow}
@@ -77,7 +78,7 @@ fits-clean {known} {h} {k} {d} {a} f =
     (both-true (kind-ok h) (both-true (leaf-ok known h k (f .leaf)) (bound-ok (pairOf h .max))))
     (pair-ok (pairOf h .min) (pairOf h .max) (f .pair))
     (both-true (group-ok h (f .group)) (member-ok a h (f .member)))
-    (le-leb d 12 (f .shallow)))
+    (le-leb d maxDepth (f .shallow)))
 
 -- From a record to its head ----------------------------------------------------
 

@@ -13,6 +13,7 @@ use Rattle.intake.specs.declared.Fault.{Fault}
 use Rattle.intake.specs.declared.Fault.the-variants.{Counts}
 use Rattle.intake.specs.declared.Checked.{Checked}
 use Rattle.intake.specs.declared.Checked.the-variants.{Accepted, Refused}
+use Rattle.intake.specs.Limits.{maxDepth}
 use Rattle.intake.specs.Faults.{Known, faultOf}
 use Rattle.intake.specs.Scan.{Level, level, waiting, orElse, scan}
 use Rattle.intake.proofs.Steps.{shallow, done, missing, awaited, surplus}
@@ -40,11 +41,11 @@ wanted known ts = scan known ts (level 1 false ∷ [])
 
 -- the records rs are left, with these levels
 pub record Scanning (known : Known) (ts : List Record) (left : ℕ) (all : Bool) (outer : List ℕ) (above : ℕ) (rs : List Record) : Type 0 where
-  pub size : length outer ≡ 12
-  pub within : above ≤ 12
+  pub size : length outer ≡ maxDepth
+  pub within : above ≤ maxDepth
   pub answer : wanted known ts ≡ scan known rs (level left all ∷ groups above outer)
 
-pub start : (known : Known) (outer : List ℕ) (ts : List Record) → length outer ≡ 12 → Scanning known ts 1 false outer 0 ts
+pub start : (known : Known) (outer : List ℕ) (ts : List Record) → length outer ≡ maxDepth → Scanning known ts 1 false outer 0 ts
 unfolding groups
 start known outer ts l = record { size = l; within = omega arith; answer = refl }
 
@@ -92,7 +93,7 @@ module _ {known : Known} {ts : List Record} {left : ℕ} {all : Bool} {outer : L
         pub leaf : r .count ≡ 0 → Scanning known ts (left - 1) all outer above next
         leaf z = record { size = s .size; within = s .within; answer = rw (clean, z) at step ∙ done known next _ _ }
 
-        pub low : above < 12
+        pub low : above < maxDepth
         low = omega (arith, shallow known r (above + 1) all clean)
 
         pub group : (r .count ≡ 0 → ⊥) → Scanning known ts (r .count) (eqb (r .kind) 4) (set outer above (left - 1)) (above + 1) next

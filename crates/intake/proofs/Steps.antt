@@ -12,6 +12,7 @@ use Rattle.intake.specs.declared.Fault.{Fault}
 use Rattle.intake.specs.declared.Fault.the-variants.{Fields, Pair, AllGroup, Depth, Counts}
 use Rattle.intake.specs.declared.Checked.{Checked}
 use Rattle.intake.specs.declared.Checked.the-variants.{Accepted, Refused}
+use Rattle.intake.specs.Limits.{maxDepth}
 use Rattle.intake.specs.Faults.{Known, fieldsOk, pairOk, allOk, faultOf}
 use Rattle.intake.specs.Scan.{Level, level, waiting, ended, orElse, stepped, scan}
 
@@ -26,13 +27,13 @@ awaits n a st = rw (ne-eqb (suc n) 0 (λ z. omega arith))
 abbrev pub outcome : Bool → Bool → Bool → Bool → Checked
 outcome f p g s = cond f (cond p (cond g (cond s Accepted (Refused Depth)) (Refused AllGroup)) (Refused Pair)) (Refused Fields)
 
-pub tests : (known : Known) (r : Record) (d : ℕ) (a : Bool) {f p g s : Bool} → fieldsOk known r ≡ f → pairOk r ≡ p → allOk r a ≡ g → leb d 12 ≡ s → outcome f p g s ≡ faultOf known r d a
+pub tests : (known : Known) (r : Record) (d : ℕ) (a : Bool) {f p g s : Bool} → fieldsOk known r ≡ f → pairOk r ≡ p → allOk r a ≡ g → leb d maxDepth ≡ s → outcome f p g s ≡ faultOf known r d a
 tests known r d a f p g s = rw (f, p, g, s)
 
 -- a record without fault passes each test
 module _ (known : Known) (r : Record) (d : ℕ) (a : Bool) (e : faultOf known r d a ≡ Accepted) where
-  pub clean : (fieldsOk known r ≡ true) × (pairOk r ≡ true) × (allOk r a ≡ true) × (leb d 12 ≡ true)
-  clean = go (fieldsOk known r) (pairOk r) (allOk r a) (leb d 12) e
+  pub clean : (fieldsOk known r ≡ true) × (pairOk r ≡ true) × (allOk r a ≡ true) × (leb d maxDepth ≡ true)
+  clean = go (fieldsOk known r) (pairOk r) (allOk r a) (leb d maxDepth) e
     where
       go : (f p g s : Bool) → outcome f p g s ≡ Accepted → (f ≡ true) × (p ≡ true) × (g ≡ true) × (s ≡ true)
       go true true true true q = (refl, refl, refl, refl)
@@ -41,8 +42,8 @@ module _ (known : Known) (r : Record) (d : ℕ) (a : Bool) (e : faultOf known r 
       go true false g s q = absurd (refused q)
       go false p g s q = absurd (refused q)
 
-  pub shallow : d ≤ 12
-  shallow = leb-true d 12 (clean .3)
+  pub shallow : d ≤ maxDepth
+  shallow = leb-true d maxDepth (clean .3)
 
 module _ (known : Known) where
   -- a group that awaits nothing more

@@ -6,6 +6,7 @@ use Rattle.particle.specs.declared.MaxOccurs.{MaxOccurs}
 use Rattle.particle.specs.declared.MaxOccurs.the-variants.{Bounded, Unbounded}
 use Rattle.particle.specs.Record.{maxRecords}
 use Rattle.particle.specs.Tree.{Head, element, wildcard, sequence, choice, all, Items, none, item, Particle, pairOf, single, sizeI}
+use Rattle.intake.specs.Limits.{maxDepth}
 use Rattle.intake.specs.Faults.{Known}
 
 -- a leaf has a known number and no items
@@ -51,14 +52,14 @@ pub record RecordFits (known : Known) (h : Head) (k : Items) (depth : ℕ) (inAl
   pub pair : MaxFits (pairOf h .min) (pairOf h .max)
   pub group : AllFits h
   pub member : MemberFits inAll h
-  pub shallow : depth ≤ 12
+  pub shallow : depth ≤ maxDepth
 
 -- each record of the trees, the first ones being at this depth
 unfoldable pub TreesFit : Known → Items → ℕ → Bool → Type 0
 TreesFit known none depth inAll = Unit {0}
 TreesFit known (item h k r) depth inAll = RecordFits known h k depth inAll × TreesFit known k (suc depth) (isAll h) × TreesFit known r depth inAll
 
--- a tree that meets document 01's conditions: at most 255 records, and each record in order
+-- a tree that meets document 01's conditions: not too many records, and each record in order
 pub record TreeFits (known : Known) (x : Particle) : Type 0 where
   pub few : sizeI (single x) ≤ maxRecords
   pub each : TreesFit known (single x) 1 false

@@ -6,6 +6,7 @@ use Rattle.particle.specs.declared.Record.{Record}
 use Rattle.intake.specs.declared.Fault.the-variants.{Fields, Pair, AllGroup, Depth}
 use Rattle.intake.specs.declared.Checked.{Checked}
 use Rattle.intake.specs.declared.Checked.the-variants.{Accepted, Refused}
+use Rattle.intake.specs.Limits.{maxDepth}
 
 -- which leaf numbers there are, by kind
 abbrev pub Known : Type 0
@@ -34,4 +35,4 @@ allOk r inAll = (not (eqb (r .kind) 4) || (eqb (r .unbounded) 0 && eqb (r .max) 
 -- the first fault of a record at this depth
 abbrev pub faultOf : Known → Record → (depth : ℕ) → (inAll : Bool) → Checked
 faultOf known r depth inAll =
-    cond (fieldsOk known r) (cond (pairOk r) (cond (allOk r inAll) (cond (leb depth 12) Accepted (Refused Depth)) (Refused AllGroup)) (Refused Pair)) (Refused Fields)
+    cond (fieldsOk known r) (cond (pairOk r) (cond (allOk r inAll) (cond (leb depth maxDepth) Accepted (Refused Depth)) (Refused AllGroup)) (Refused Pair)) (Refused Fields)

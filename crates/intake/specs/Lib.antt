@@ -1,3 +1,4 @@
+pub mod Limits
 pub mod Faults
 pub mod Scan
 pub mod Number

@@ -10,6 +10,7 @@ use Rattle.particle.specs.Tree.{records}
 use Rattle.intake.specs.declared.Fault.the-variants.{Counts}
 use Rattle.intake.specs.declared.Checked.{Checked}
 use Rattle.intake.specs.declared.Checked.the-variants.{Accepted, Refused}
+use Rattle.intake.specs.Limits.{maxLeaves}
 use Rattle.intake.specs.Faults.{Known, faultOf}
 
 -- a group that is being read: how many items it still awaits, and whether it is an all-group
@@ -51,9 +52,9 @@ refusalIn known t =
     (Refused Counts)
     (scan known (records t) (level 1 false ∷ []))
 
--- the leaves of a tree alone: 0 to 63, of either kind
+-- the leaves of a tree alone: as many as there can be, of either kind
 abbrev pub alone : Known
-alone kind leaf = ltb leaf 64
+alone kind leaf = ltb leaf maxLeaves
 
 -- the leaves of a list of kinds, where 2 stands for either kind
 abbrev pub listed : List ℕ → Known

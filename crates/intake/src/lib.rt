@@ -40,6 +40,9 @@ const EITHER: u8 = 2;
 // A tree is at most so deep; its root is at depth 1.
 const MAX_DEPTH: usize = 12;
 
+// There are at most so many leaves.
+pub const MAX_LEAVES: usize = 64;
+
 // Whether the list has r's leaf number, as r's kind.
 fn is_listed(r: Record, kinds: &[u8]) -> bool
     ensures { λ b. ⌜ b ≡ listed (now (kinds .entry)) (r .kind) (r .leaf) ⌝ }
@@ -188,11 +191,11 @@ pub fn check_tree(t: &[u8], kinds: &[u8]) -> Checked
     scan(t, kinds)
 }
 
-// The first refusal of a tree alone, which has no leaf list: any leaf number up to 63, as an element or a wildcard.
+// The first refusal of a tree alone, which has no leaf list: any leaf number below MAX_LEAVES, as an element or a wildcard.
 pub fn check_alone(t: &[u8]) -> Checked
     ensures { λ r. ⌜ r ≡ refusalIn alone (now (t .entry)) ⌝ }
 {
-    let kinds = [EITHER; 64];
+    let kinds = [EITHER; MAX_LEAVES];
     check_tree(t, &kinds)
 }
 

@@ -6,7 +6,7 @@ use native.Mathlib.Omega.{arith}
 use lib.ListN.{length, take, drop, getD, set, length-drop, length-set}
 use lib.Seq.{take-take, take-add, drop-at, length-take-le, drop-drop, drop-length, getD-drop, getD-take, take-set-le, drop-set-lt, drop-set-add}
 use Rattle.particle.specs.declared.Record.{Record}
-use Rattle.particle.specs.Record.{recordSize, maxRecords, recordAt, rangeOf}
+use Rattle.particle.specs.Record.{recordSize, maxRecords, atKind, atLeaf, atCount, atUnbounded, atMin, atMax, word, recordAt, rangeOf}
 use Rattle.particle.specs.Tree.{takeI, countI, sizeI, headFrom, headOf, build, records, decode, firstOf, tree}
 use Rattle.particle.specs.Rows.{Complete, Row, row}
 use Rattle.particle.specs.Runs.{Measured, Run}
@@ -30,16 +30,20 @@ group-head r v = go (r .kind)
     go (suc (suc (suc (suc k)))) h = refl
 
 -- a leaf number stored
-stored : (s : List ℕ) (v : ℕ) → recordSize ≤ length s → recordAt (set s 1 v) ≡ withLeaf (recordAt s) v
-stored [] v h = absurd (omega arith)
-stored (a ∷ []) v h = absurd (omega arith)
-stored (a ∷ b ∷ s) v h = refl
+leaf-stored : (s : List ℕ) (v : ℕ) → recordSize ≤ length s → recordAt (set s atLeaf v) ≡ withLeaf (recordAt s) v
+leaf-stored [] v h = absurd (omega arith)
+leaf-stored (a ∷ []) v h = absurd (omega arith)
+leaf-stored (a ∷ b ∷ s) v h = refl
 
 -- a record is its bytes
+word-front : (n i : ℕ) (s : List ℕ) → i + 4 ≤ n → word (take n s) i ≡ word s i
+word-front n i s h = rw (getD-take n s i 0 (omega arith), getD-take n s (i + 1) 0 (omega arith), getD-take n s (i + 2) 0 (omega arith), getD-take n s (i + 3) 0 (omega arith))
+
 record-front : (s : List ℕ) → recordAt (take recordSize s) ≡ recordAt s
 record-front s =
     let b : (i : ℕ) → i < recordSize → getD (take recordSize s) i 0 ≡ getD s i 0 = λ i h. getD-take recordSize s i 0 h in
-    rw (b 0 (omega arith), b 1 (omega arith), b 2 (omega arith), b 3 (omega arith), b 4 (omega arith), b 5 (omega arith), b 6 (omega arith), b 7 (omega arith), b 8 (omega arith), b 9 (omega arith), b 10 (omega arith), b 11 (omega arith))
+    let w : (i : ℕ) → i + 4 ≤ recordSize → word (take recordSize s) i ≡ word s i = λ i h. word-front recordSize i s h in
+    rw (b atKind (omega arith), b atLeaf (omega arith), b atCount (omega arith), b atUnbounded (omega arith), w atMin (omega arith), w atMax (omega arith))
 
 -- from `at` on
 pub record MeasuredFrom (before t : List ℕ) (at : ℕ) : Type 0 where
@@ -51,16 +55,16 @@ pub record MeasuredFrom (before t : List ℕ) (at : ℕ) : Type 0 where
   pub complete : Complete (records (drop at t))
   pub measured : Measured (records (drop at t))
 
-module _ (before : List ℕ) (w : Row 1 before) where
-  pub measure-start : MeasuredFrom before before (length before)
+module _ {before : List ℕ} (w : Row 1 before) where
+  pub none-measured : MeasuredFrom before before (length before)
   unfolding Complete Measured
-  measure-start =
+  none-measured =
       let e : records (drop (length before) before) ≡ [] = rw (drop-length before) (records-short [] (omega arith)) in
       record { same = refl; even = w .even; within = omega arith; front = refl; trees = refl; complete = rw e tt; measured = rw e tt }
 
-  pub measure-done : {t : List ℕ} {at : ℕ} → MeasuredFrom before t at → at ≤ 0 → Run 1 t × (tree t ≡ tree before)
+  pub all-measured : {t : List ℕ} {at : ℕ} → MeasuredFrom before t at → at ≤ 0 → Run 1 t × (tree t ≡ tree before)
   unfolding tree
-  measure-done {t} {at} a h =
+  all-measured {t} {at} a h =
       let z : at ≡ 0 = omega arith in
       let b : MeasuredFrom before t 0 = rw z at a in
       (record { row = record { even = omega (arith, w .even, b .same); complete = b .complete; enough = rw (b .trees) (w .enough) }; measured = b .measured }, ap firstOf (b .trees))
@@ -77,8 +81,8 @@ module _ (before : List ℕ) (w : Row 1 before) where
     record-long = omega (arith, long, a .within, a .same, length-drop (at - recordSize) t)
 
     -- the record there is the one that it was
-    cut : (l : List ℕ) → at ≤ length l → take recordSize (drop (at - recordSize) l) ≡ drop (at - recordSize) (take at l)
-    cut l h =
+    record-bytes : (l : List ℕ) → at ≤ length l → take recordSize (drop (at - recordSize) l) ≡ drop (at - recordSize) (take at l)
+    record-bytes l h =
         sym (ap (λ (n : ℕ). drop (at - recordSize) (take n l)) (sym ends)
         ∙ (ap (drop (at - recordSize)) (take-add (at - recordSize) recordSize l)
         ∙ drop-at (take (at - recordSize) l) (take recordSize (drop (at - recordSize) l)) (at - recordSize) (length-take-le (at - recordSize) l (omega arith))))
@@ -86,7 +90,7 @@ module _ (before : List ℕ) (w : Row 1 before) where
     record-same : recordAt (drop (at - recordSize) t) ≡ recordAt (drop (at - recordSize) before)
     record-same =
         sym (record-front (drop (at - recordSize) t))
-        ∙ (ap recordAt (cut t (omega (arith, a .within, a .same)) ∙ (ap (drop (at - recordSize)) (a .front) ∙ sym (cut before (a .within))))
+        ∙ (ap recordAt (record-bytes t (omega (arith, a .within, a .same)) ∙ (ap (drop (at - recordSize)) (a .front) ∙ sym (record-bytes before (a .within))))
         ∙ record-front (drop (at - recordSize) before))
 
     -- the records from there on
@@ -121,43 +125,40 @@ module _ (before : List ℕ) (w : Row 1 before) where
           measured = rw rs (λ g. size g ∙ omega arith, a .measured);
         }
 
-    kind-is : recordAt (drop (at - recordSize) t) .kind ≡ getD t (at - recordSize) 0
-    kind-is =
-        let z : at - recordSize + 0 ≡ at - recordSize = omega arith in
-        getD-drop (at - recordSize) t 0 0 ∙ ap (λ (k : ℕ). getD t k 0) z
-
-    count-is : recordAt (drop (at - recordSize) t) .count ≡ getD t (at - recordSize + 2) 0
-    count-is = getD-drop (at - recordSize) t 2 0
+    kind-is : recordAt (drop (at - recordSize) t) .kind ≡ getD t (at - recordSize + atKind) 0
+    kind-is = getD-drop (at - recordSize) t atKind 0
 
     -- a leaf's record stays as it is
-    pub measure-leaf : (2 ≤ getD t (at - recordSize) 0 → ⊥) → MeasuredFrom before t (at - recordSize)
-    measure-leaf n = step (recordAt (drop (at - recordSize) t)) refl refl refl refl (ap headOf record-same) (ap (λ (r : Record). r .count) record-same) (λ g. absurd (n (omega (arith, g, kind-is))))
+    pub leaf-measured : getD t (at - recordSize + atKind) 0 < 2 → MeasuredFrom before t (at - recordSize)
+    leaf-measured n = step (recordAt (drop (at - recordSize) t)) refl refl refl refl (ap headOf record-same) (ap (λ (r : Record). r .count) record-same) (λ g. absurd (omega (arith, n, g, kind-is)))
 
-    -- a group's items, as `&t[at + RECORD_SIZE..]` hands them on
-    abbrev Rest : List ℕ
-    Rest = take (length t - (at - recordSize + recordSize)) (drop (at - recordSize + recordSize) t)
+    -- a group of `count` items, whose bytes are handed on as `&t[at + RECORD_SIZE..]`
+    module _ {count : ℕ} (c : count ≡ recordAt (drop (at - recordSize) t) .count) where
+      abbrev Rest : List ℕ
+      Rest = take (length t - (at - recordSize + recordSize)) (drop (at - recordSize + recordSize) t)
 
-    rest-is : Rest ≡ drop at t
-    rest-is = part-is t (at - recordSize + recordSize) ∙ ap (λ (k : ℕ). drop k t) ends
+      rest-is : Rest ≡ drop at t
+      rest-is = part-is t (at - recordSize + recordSize) ∙ ap (λ (k : ℕ). drop k t) ends
 
-    pub to-items : Run (getD t (at - recordSize + 2) 0) Rest
-    to-items =
-        let c : getD t (at - recordSize + 2) 0 ≡ recordAt (drop (at - recordSize) before) .count = sym count-is ∙ ap (λ (r : Record). r .count) record-same in
-        rw rest-is (record { row = record { even = omega (arith, w .even, a .same, a .even, a .within, length-drop at t); complete = a .complete; enough = rw c count-fits }; measured = a .measured })
+      pub items-measured : Run count Rest
+      items-measured =
+          let e : count ≡ recordAt (drop (at - recordSize) before) .count = c ∙ ap (λ (r : Record). r .count) record-same in
+          rw rest-is (record { row = record { even = omega (arith, w .even, a .same, a .even, a .within, length-drop at t); complete = a .complete; enough = rw e count-fits }; measured = a .measured })
 
-    module _ (n : ℕ) (e : n ≡ recordSize * sizeI (row (getD t (at - recordSize + 2) 0) Rest)) where
-      size-is : n / recordSize + 1 ≡ suc (sizeI (row (recordAt (drop (at - recordSize) t) .count) (drop at t)))
-      size-is =
-          let f : n ≡ recordSize * sizeI (row (getD t (at - recordSize + 2) 0) (drop at t)) = rw rest-is at e in
-          rw count-is (omega (arith, f))
+      -- whose items take n bytes
+      module _ {n : ℕ} (e : n ≡ recordSize * sizeI (row count Rest)) where
+        size-is : n / recordSize + 1 ≡ suc (sizeI (row (recordAt (drop (at - recordSize) t) .count) (drop at t)))
+        size-is =
+            let f : n ≡ recordSize * sizeI (row count (drop at t)) = rw rest-is at e in
+            rw (← c) (omega (arith, f))
 
-      pub size-fits : length before ≤ recordSize * maxRecords → n / recordSize + 1 < 256
-      unfolding decode
-      size-fits few = omega (arith, size-is, sizeI-split (recordAt (drop (at - recordSize) t) .count) (build (records (drop at t))), sizeI-build (records (drop at t)), length-records (drop at t), length-drop at t, a .same, long, few)
+        pub size-fits : length before ≤ recordSize * maxRecords → n / recordSize + 1 ≤ maxRecords
+        unfolding decode
+        size-fits few = omega (arith, size-is, sizeI-split (recordAt (drop (at - recordSize) t) .count) (build (records (drop at t))), sizeI-build (records (drop at t)), length-records (drop at t), length-drop at t, a .same, long, few)
 
-      pub measure-group : 2 ≤ getD t (at - recordSize) 0 → MeasuredFrom before (set t (at - recordSize + 1) (n / recordSize + 1)) (at - recordSize)
-      measure-group g =
-          let v = n / recordSize + 1 in
-          step (withLeaf (recordAt (drop (at - recordSize) t)) v) (length-set t (at - recordSize + 1) v) (take-set-le (at - recordSize) t (at - recordSize + 1) v (omega arith)) (drop-set-lt at t (at - recordSize + 1) v (omega (arith, long)))
-          (ap recordAt (drop-set-add (at - recordSize) t 1 v) ∙ stored (drop (at - recordSize) t) v record-long)
-          (group-head (recordAt (drop (at - recordSize) t)) v (omega (arith, g, kind-is)) ∙ ap headOf record-same) (ap (λ (r : Record). r .count) record-same) (λ _. size-is)
+        pub group-measured : 2 ≤ getD t (at - recordSize + atKind) 0 → MeasuredFrom before (set t (at - recordSize + atLeaf) (n / recordSize + 1)) (at - recordSize)
+        group-measured g =
+            let v = n / recordSize + 1 in
+            step (withLeaf (recordAt (drop (at - recordSize) t)) v) (length-set t (at - recordSize + atLeaf) v) (take-set-le (at - recordSize) t (at - recordSize + atLeaf) v (omega arith)) (drop-set-lt at t (at - recordSize + atLeaf) v (omega (arith, long)))
+            (ap recordAt (drop-set-add (at - recordSize) t atLeaf v) ∙ leaf-stored (drop (at - recordSize) t) v record-long)
+            (group-head (recordAt (drop (at - recordSize) t)) v (omega (arith, g, kind-is)) ∙ ap headOf record-same) (ap (λ (r : Record). r .count) record-same) (λ _. size-is)

@@ -3,6 +3,7 @@ use mathlib.Core.Path.{_≡_, refl, ap, sym, _∙_}
 use mathlib.Core.List.{List, [], _∷_, _++_, append-assoc, append-nil}
 use Prim.Native.Nat.{ℕ, zero, suc, _+_, _*_, _-_, _/_, _%_, _≤_, _<_}
 use native.Mathlib.Nat.{add-zero}
+use native.Mathlib.Numerals.{towards-suc}
 use native.Mathlib.Omega.{arith}
 use lib.ListN.{length, take, drop, getD, length-drop}
 use lib.Seq.{drop-cons}
@@ -10,7 +11,7 @@ use Rattle.particle.specs.declared.MaxOccurs.{MaxOccurs}
 use Rattle.particle.specs.declared.MaxOccurs.the-variants.{Bounded, Unbounded}
 use Rattle.particle.specs.declared.Occurs.{Occurs}
 use Rattle.particle.specs.declared.Record.{Record}
-use Rattle.particle.specs.Record.{recordSize, recordAt, recordBytes, word, wordBytes, maxOf}
+use Rattle.particle.specs.Record.{recordSize, atMin, atMax, recordAt, recordBytes, word, wordBytes, maxOf}
 use Rattle.particle.specs.Tree.{Head, element, wildcard, sequence, choice, all, Items, none, item, _then_, takeI, dropI, countI, headOf, build, records, recordsN, decode}
 use Rattle.particle.specs.Encode.{markNumber, maxNumber, recordOf, flat, joined, encode, Bytes, Faithful}
 use Rattle.particle.specs.Rows.{Complete}
@@ -122,14 +123,14 @@ bytes-take zero t b = tt
 bytes-take (suc k) [] b = b
 bytes-take (suc k) (x ∷ t) b = (b .0, bytes-take k t (b .1))
 
+-- and of the number at byte i
+pub word-from : (t : List ℕ) → Bytes t → (i : ℕ) → wordBytes (word t i) ≡ from 4 i t
+unfolding from
+word-from t b i = word-bytes (getD t i 0) (getD t (i + 1) 0) (getD t (i + 2) 0) (getD t (i + 3) 0) (byte-at t b i) (byte-at t b (i + 1)) (byte-at t b (i + 2)) ∙ simp towards-suc
+
 first-bytes : (t : List ℕ) → Bytes t → recordSize ≤ length t → recordBytes (recordAt t) ++ drop recordSize t ≡ t
 unfolding from
-first-bytes t b h =
-    let e₄ : wordBytes (word t 4) ≡ from 4 4 t = word-bytes (getD t 4 0) (getD t 5 0) (getD t 6 0) (getD t 7 0) (byte-at t b 4) (byte-at t b 5) (byte-at t b 6) in
-    let e₈ : wordBytes (word t 8) ≡ from 4 8 t = word-bytes (getD t 8 0) (getD t 9 0) (getD t 10 0) (getD t 11 0) (byte-at t b 8) (byte-at t b 9) (byte-at t b 10) in
-    ap (λ (x : List ℕ). getD t 0 0 ∷ getD t 1 0 ∷ getD t 2 0 ∷ getD t 3 0 ∷ ((x ++ wordBytes (word t 8)) ++ drop recordSize t)) e₄
-    ∙ (ap (λ (x : List ℕ). getD t 0 0 ∷ getD t 1 0 ∷ getD t 2 0 ∷ getD t 3 0 ∷ ((from 4 4 t ++ x) ++ drop recordSize t)) e₈
-    ∙ from-drop recordSize 0 t h)
+first-bytes t b h = (λ i. recordAt t .kind ∷ recordAt t .leaf ∷ recordAt t .count ∷ recordAt t .unbounded ∷ ((word-from t b atMin i ++ word-from t b atMax i) ++ drop recordSize t)) ∙ from-drop recordSize 0 t h
 
 joined-from : (n : ℕ) (t : List ℕ) → Bytes t → length t ≡ recordSize * n → joined (recordsN n t) ≡ t
 unfolding joined recordsN

@@ -3,10 +3,11 @@ use mathlib.Core.Path.{_≡_, _∙_}
 use mathlib.Core.List.{List, [], _∷_, append-assoc}
 use Prim.Native.Nat.{ℕ, _+_, _≤_}
 use native.Mathlib.Numerals.{towards-suc}
+use native.Mathlib.Omega.{arith}
 use lib.ListN.{length, take, drop, set}
 use lib.Seq.{sets, sets-eq}
 use Rattle.particle.specs.declared.Record.{Record}
-use Rattle.particle.specs.Record.{recordSize, wordBytes, recordBytes}
+use Rattle.particle.specs.Record.{recordSize, atKind, atLeaf, atCount, atUnbounded, atMin, atMax, wordBytes, recordBytes}
 use Rattle.particle.specs.Write.{overwrite}
 
 -- four bytes, as `write_u32` stores them
@@ -15,8 +16,9 @@ four-stored l at a b c d = simp towards-suc
 
 -- a record, as `write_record` stores it
 pub record-stored : (l : List ℕ) (at : ℕ) (r : Record) → at + recordSize ≤ length l
-    → sets (sets (set (set (set (set l at (r .kind)) (at + 1) (r .leaf)) (at + 2) (r .count)) (at + 3) (r .unbounded)) (at + 4) (wordBytes (r .min))) (at + 8) (wordBytes (r .max)) ≡ overwrite at (recordBytes r) l
+    → sets (sets (set (set (set (set l (at + atKind) (r .kind)) (at + atLeaf) (r .leaf)) (at + atCount) (r .count)) (at + atUnbounded) (r .unbounded)) (at + atMin) (wordBytes (r .min))) (at + atMax) (wordBytes (r .max)) ≡ overwrite at (recordBytes r) l
 unfolding overwrite
 record-stored l at r h =
     let e : sets l at (recordBytes r) ≡ overwrite at (recordBytes r) l = sets-eq (recordBytes r) l at h ∙ append-assoc (take at l) (recordBytes r) (drop (at + recordSize) l) in
-    simp towards-suc e
+    let z : at + atKind ≡ at = omega arith in
+    rw z (simp towards-suc e)

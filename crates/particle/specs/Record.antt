@@ -15,19 +15,38 @@ recordSize = 12
 abbrev pub maxRecords : ℕ
 maxRecords = 255
 
+-- where its fields start
+abbrev pub atKind : ℕ
+atKind = 0
+
+abbrev pub atLeaf : ℕ
+atLeaf = 1
+
+abbrev pub atCount : ℕ
+atCount = 2
+
+abbrev pub atUnbounded : ℕ
+atUnbounded = 3
+
+abbrev pub atMin : ℕ
+atMin = 4
+
+abbrev pub atMax : ℕ
+atMax = 8
+
 -- the 32-bit number at byte i, little-endian
 abbrev pub word : List ℕ → ℕ → ℕ
 word s i = getD s i 0 + getD s (i + 1) 0 * 256 + getD s (i + 2) 0 * 65536 + getD s (i + 3) 0 * 16777216
 
 -- the record that t starts with: kind, leaf number, item count, unbounded mark, minimum, maximum
 abbrev pub recordAt : List ℕ → Record
-recordAt t = record { kind = getD t 0 0; leaf = getD t 1 0; count = getD t 2 0; unbounded = getD t 3 0; min = word t 4; max = word t 8 }
+recordAt t = record { kind = getD t atKind 0; leaf = getD t atLeaf 0; count = getD t atCount 0; unbounded = getD t atUnbounded 0; min = word t atMin; max = word t atMax }
 
 -- the four bytes of a 32-bit number
 abbrev pub wordBytes : ℕ → List ℕ
 wordBytes n = n % 256 ∷ n / 256 % 256 ∷ n / 65536 % 256 ∷ n / 16777216 ∷ []
 
--- the bytes of a record
+-- the bytes of a record, its fields in this order
 abbrev pub recordBytes : Record → List ℕ
 recordBytes r = r .kind ∷ r .leaf ∷ r .count ∷ r .unbounded ∷ (wordBytes (r .min) ++ wordBytes (r .max))
 

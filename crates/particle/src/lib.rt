@@ -13,8 +13,21 @@ ghost use Rattle.particle.specs.Rows.{Row, itemsPart, laterPart, runSize
 pub use measured::measure;
 pub use measured::next;
 
-// The length of a record in bytes. With the reading and writing functions below, this file alone knows the layout.
+// The length of a record in bytes.
 pub const RECORD_SIZE: usize = 12;
+
+// Where its fields start. Nothing else in the code says the layout.
+const AT_KIND: usize = 0;
+
+const AT_LEAF: usize = 1;
+
+const AT_COUNT: usize = 2;
+
+const AT_UNBOUNDED: usize = 3;
+
+const AT_MIN: usize = 4;
+
+const AT_MAX: usize = 8;
 
 // A tree has at most so many records.
 pub const MAX_RECORDS: usize = 255;
@@ -71,12 +84,12 @@ pub fn record_at(t: &[u8]) -> Record
     ensures { λ r. ⌜ r ≡ recordAt (now (t .entry)) ⌝ }
 {
     Record {
-        kind: t[0],
-        leaf: t[1],
-        count: t[2],
-        unbounded: t[3],
-        min: read_u32(t, 4),
-        max: read_u32(t, 8),
+        kind: t[AT_KIND],
+        leaf: t[AT_LEAF],
+        count: t[AT_COUNT],
+        unbounded: t[AT_UNBOUNDED],
+        min: read_u32(t, AT_MIN),
+        max: read_u32(t, AT_MAX),
     }
 }
 
@@ -102,12 +115,12 @@ pub fn write_record(out: &mut [u8], at: usize, r: Record)
     requires { ⌜ at + recordSize ≤ length (now out) ⌝ }
     ensures { λ _. ⌜ now (out .exit) ≡ overwrite at (recordBytes r) (now (out .entry)) ⌝ }
 {
-    out[at] = r.kind;
-    out[at + 1] = r.leaf;
-    out[at + 2] = r.count;
-    out[at + 3] = r.unbounded;
-    write_u32(out, at + 4, r.min);
-    write_u32(out, at + 8, r.max);
+    out[at + AT_KIND] = r.kind;
+    out[at + AT_LEAF] = r.leaf;
+    out[at + AT_COUNT] = r.count;
+    out[at + AT_UNBOUNDED] = r.unbounded;
+    write_u32(out, at + AT_MIN, r.min);
+    write_u32(out, at + AT_MAX, r.max);
 }
 
 // The item count of the record at `at`.
@@ -115,7 +128,7 @@ fn count_at(t: &[u8], at: usize) -> usize
     requires { ⌜ at + recordSize ≤ length (now t) ⌝ }
     ensures { λ r. ⌜ r ≡ recordAt (drop at (now (t .entry))) .count ⌝ }
 {
-    t[at + 2] as usize
+    t[at + AT_COUNT] as usize
 }
 
 // The occurrence pair of a record.

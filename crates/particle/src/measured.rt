@@ -7,8 +7,11 @@ ghost use Rattle.particle.specs.Record.{recordSize, maxRecords};
 ghost use Rattle.particle.specs.Tree.{sizeI, tree};
 ghost use Rattle.particle.specs.Rows.{Row, row, laterPart};
 ghost use Rattle.particle.specs.Runs.{Run};
+use crate::AT_KIND;
+use crate::AT_LEAF;
 use crate::RECORD_SIZE;
 use crate::SEQUENCE;
+use crate::count_at;
 use crate::later;
 
 // The part of t that starts after the first tree.
@@ -16,10 +19,10 @@ pub fn next(t: &[u8]) -> &[u8]
     requires { ⌜ Run 1 (now t) ⌝ }
     ensures { λ r. ⌜ now r ≡ laterPart (now (t .entry)) ⌝ }
 {
-    if t[0] < SEQUENCE {
+    if t[AT_KIND] < SEQUENCE {
         return later(t);
     }
-    let n = RECORD_SIZE * (t[1] as usize);
+    let n = RECORD_SIZE * (t[AT_LEAF] as usize);
     &t[n..]
 }
 
@@ -47,9 +50,10 @@ pub fn measure(t: &mut [u8])
     let mut at = t.len();
     while 0 < at {
         at -= RECORD_SIZE;
-        if t[at] >= SEQUENCE {
-            let n = row_len(&t[at + RECORD_SIZE..], t[at + 2] as usize);
-            t[at + 1] = (n / RECORD_SIZE + 1) as u8;
+        if t[at + AT_KIND] >= SEQUENCE {
+            let count = count_at(t, at);
+            let n = row_len(&t[at + RECORD_SIZE..], count);
+            t[at + AT_LEAF] = (n / RECORD_SIZE + 1) as u8;
         }
     }
 }

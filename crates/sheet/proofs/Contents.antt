@@ -10,8 +10,9 @@ use lib.Seq.{length-take-le}
 use borrow.Author.Tests.{leb-true, le-leb, eqb-true, eq-eqb}
 use Rattle.particle.specs.Record.{recordSize, maxRecords}
 use Rattle.particle.proofs.Tests.{and-true}
+use Rattle.intake.specs.Limits.{maxLeaves}
 use Rattle.verdicts.specs.Paper.{leafSize}
-use Rattle.sheet.specs.Layout.{contentsSize, maxLeaves, leafCount, derivedCount, baseCount, zeroByte, totalField, tablesAt, derivedAt, baseAt, wholeLength, leavesPart, tablesPart, derivedPart, basePart}
+use Rattle.sheet.specs.Layout.{contentsSize, leafCount, derivedCount, baseCount, zeroByte, totalField, tablesAt, derivedAt, baseAt, wholeLength, leavesPart, tablesPart, derivedPart, basePart}
 use Rattle.sheet.specs.Refused.{inRange, countsOk, contentsOk}
 
 -- a number in its range

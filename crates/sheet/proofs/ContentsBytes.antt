@@ -9,7 +9,8 @@ use Rattle.particle.specs.Record.{maxRecords, wordBytes}
 use Rattle.particle.specs.Encode.{Bytes}
 use Rattle.particle.proofs.RoundTrip.{from, from-drop, quarters, word-bytes, byte-at}
 use Rattle.particle.proofs.Widths as widths
-use Rattle.sheet.specs.Layout.{contentsSize, maxLeaves, leafCount, derivedCount, baseCount, zeroByte, totalField, totalOf, wholeLength, contentsBytes}
+use Rattle.intake.specs.Limits.{maxLeaves}
+use Rattle.sheet.specs.Layout.{contentsSize, leafCount, derivedCount, baseCount, zeroByte, totalField, totalOf, wholeLength, contentsBytes}
 use Rattle.sheet.proofs.Contents.{Contents}
 
 -- s starts with the contents of n leaves, d derived and b base records, and these bodies follow

@@ -8,10 +8,11 @@ use lib.Dec.{eqb}
 use lib.ListN.{length}
 use Rattle.particle.specs.Tree.{Particle, single, sizeI}
 use Rattle.particle.specs.Encode.{encode}
+use Rattle.intake.specs.Limits.{maxLeaves}
 use Rattle.intake.specs.Faults.{Known}
 use Rattle.intake.specs.Accepted.{TreeFits}
 use Rattle.sheet.specs.declared.bodies.Leaf.{Leaf}
-use Rattle.sheet.specs.Layout.{maxLeaves, contentsBytes, leavesBytes}
+use Rattle.sheet.specs.Layout.{contentsBytes, leavesBytes}
 
 -- a paper: its leaves, both tables by rows, and both trees
 pub record Paper : Type 0 where
@@ -52,7 +53,7 @@ knownBy [] kind leaf = false
 knownBy (l ∷ ls) kind zero = eqb (l .kind) kind
 knownBy (l ∷ ls) kind (suc leaf) = knownBy ls kind leaf
 
--- a paper that meets document 01's conditions: 1 to 64 leaves, two tables of their verdicts, two trees over them, each of at most 255 records
+-- a paper that meets document 01's conditions: one leaf or more and not too many, two tables of their verdicts, two trees over them
 pub record PaperFits (p : Paper) : Type 0 where
   pub some : 1 ≤ length (p .leaves)
   pub few : length (p .leaves) ≤ maxLeaves

@@ -10,10 +10,6 @@ use Rattle.sheet.specs.declared.bodies.Leaf.{Leaf}
 abbrev pub contentsSize : ℕ
 contentsSize = 8
 
--- a sheet has at most so many leaves
-abbrev pub maxLeaves : ℕ
-maxLeaves = 64
-
 abbrev pub leafCount : List ℕ → ℕ
 leafCount s = getD s 0 0
 

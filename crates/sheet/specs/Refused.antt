@@ -10,12 +10,13 @@ use Rattle.intake.specs.declared.Refusal.{Refusal}
 use Rattle.intake.specs.declared.Refusal.the-variants.{Contents, Leaf, Verdict, Base, Derived}
 use Rattle.intake.specs.declared.Checked.{Checked}
 use Rattle.intake.specs.declared.Checked.the-variants as tree
+use Rattle.intake.specs.Limits.{maxLeaves}
 use Rattle.intake.specs.Faults.{Known}
 use Rattle.intake.specs.Scan.{refusalIn, listed}
 use Rattle.sheet.specs.declared.SheetChecked.{SheetChecked}
 use Rattle.sheet.specs.declared.SheetChecked.the-variants.{Accepted, Refused}
 use Rattle.sheet.specs.declared.bodies.Leaf as leaf
-use Rattle.sheet.specs.Layout.{contentsSize, maxLeaves, leafCount, derivedCount, baseCount, zeroByte, totalField, wholeLength, tablesPart, derivedPart, basePart, leafList}
+use Rattle.sheet.specs.Layout.{contentsSize, leafCount, derivedCount, baseCount, zeroByte, totalField, wholeLength, tablesPart, derivedPart, basePart, leafList}
 
 -- 1: under 8 bytes, a contents field out of its range, or total field or actual length unlike the formula
 abbrev pub inRange : (least most n : ℕ) → Bool

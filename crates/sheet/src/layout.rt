@@ -5,15 +5,13 @@ ghost use Prim.Native.Nat.{_*_, _^_, _≤_, _<_};
 ghost use lib.ListN.{length};
 ghost use Rattle.sheet.specs.Layout.{contentsSize, leafCount, derivedCount, baseCount, zeroByte, totalField, tablesAt, derivedAt, baseAt, totalOf, leavesPart, tablesPart, derivedPart, basePart};
 ghost use Rattle.sheet.specs.Refused.{inRange, countsOk, contentsOk};
+use intake::MAX_LEAVES;
 use particle::MAX_RECORDS;
 use particle::RECORD_SIZE;
 use verdicts::LEAF_SIZE;
 
 // The length of the contents in bytes.
 const CONTENTS_SIZE: usize = 8;
-
-// A sheet has at most so many leaves.
-pub const MAX_LEAVES: usize = 64;
 
 fn wide(x: u8) -> usize
     ensures { λ r. ⌜ (r ≡ x) × (r < 256) ⌝ }

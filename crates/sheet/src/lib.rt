@@ -44,7 +44,7 @@ pub fn check(s: &[u8]) -> SheetChecked
         return SheetChecked::Refused(Refusal::Contents);
     }
     let n = leaf_count(s) as usize;
-    let mut kinds = [0; layout::MAX_LEAVES];
+    let mut kinds = [0; intake::MAX_LEAVES];
     if !bodies::read_leaves(layout::leaves(s), n, &mut kinds) {
         return SheetChecked::Refused(Refusal::Leaf);
     }

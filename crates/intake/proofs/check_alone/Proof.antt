@@ -1,4 +1,4 @@
--- `intake::check_alone` meets its contract: a list of 64 leaves of either kind knows what a tree alone may use. Assumes nothing.
+-- `intake::check_alone` meets its contract: a list of as many leaves as there can be, of either kind, knows what a tree alone may use. Assumes nothing.
 use mathlib.Core.Path.{_≡_, ap, _∙_, fun-ext}
 use Prim.Native.Nat.{ℕ, _≤_, _<_}
 use native.Mathlib.Decide.{decLt}
@@ -7,6 +7,7 @@ use lib.Dec.{ltb}
 use lib.ListN.{replicate, length-replicate, getD-replicate}
 use borrow.Author.Needs.{needs}
 use borrow.Author.Tests.{lt-ltb, le-ltb}
+use Rattle.intake.specs.Limits.{maxLeaves}
 use Rattle.intake.specs.Faults.{Known}
 use Rattle.intake.specs.Scan.{listed, refusalIn}
 use Rattle.intake.proofs.check_alone.Statement.{statement}
@@ -22,7 +23,7 @@ either n kind leaf = go (decLt leaf n)
         rw (length-replicate, le-ltb leaf n g)
 
 returns : tie.Need-returns
-returns c = c .check-tree .ensures ∙ ap (λ (known : Known). refusalIn known (c .before .before .before .args .t .now)) (fun-ext (λ kind. fun-ext (either 64 kind)))
+returns c = c .check-tree .ensures ∙ ap (λ (known : Known). refusalIn known (c .before .before .before .args .t .now)) (fun-ext (λ kind. fun-ext (either maxLeaves kind)))
 
 pub check-alone-spec : {M : Type 1} → statement M
 check-alone-spec = tie.close (tie.spec (λ c. search needs) (λ c κs. search needs) returns)

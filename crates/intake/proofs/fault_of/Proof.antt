@@ -4,6 +4,7 @@ use mathlib.Core.Bool.{Bool}
 use lib.Dec.{leb}
 use borrow.Author.Needs.{needs}
 use borrow.Author.Tests.{not-true, not-false, le-leb, lt-leb}
+use Rattle.intake.specs.Limits.{maxDepth}
 use Rattle.intake.specs.Faults.{faultOf}
 use Rattle.intake.specs.Scan.{listed}
 use Rattle.intake.proofs.Steps.{outcome, tests}
@@ -16,7 +17,7 @@ found :
     c .before .before .fields-ok .result ≡ f →
     c .before .pair-ok .result ≡ p →
     c .all-ok .result ≡ g →
-    leb (c .before .before .before .before .args .depth) 12 ≡ s →
+    leb (c .before .before .before .before .args .depth) maxDepth ≡ s →
     outcome f p g s
     ≡ faultOf (listed (c .before .before .before .before .args .kinds .now)) (c .before .before .before .before .args .r) (c .before .before .before .before .args .depth) (c .before .before .before .before .args .in-all)
 found c f p g s =

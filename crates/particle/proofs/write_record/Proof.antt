@@ -5,7 +5,7 @@ use Prim.Native.Nat.{ℕ, _+_}
 use native.Mathlib.Omega.{arith}
 use lib.ListN.{length-set}
 use lib.Seq.{sets}
-use Rattle.particle.specs.Record.{wordBytes}
+use Rattle.particle.specs.Record.{atMax, wordBytes}
 use Rattle.particle.proofs.Store.{record-stored}
 use borrow.Author.Needs.{needs}
 use Rattle.particle.proofs.write_record.Statement.{statement}
@@ -34,13 +34,14 @@ returns c =
     let d = c .before .before .before .before .before .before in
     let a = d .before .before .before .args in
     c .before .before .write-u322 .ensures
-    ∙ (ap (λ (l : List ℕ). sets l (a .at + 8) (wordBytes (a .r .max))) (d .write-u32 .ensures)
+    ∙ (ap (λ (l : List ℕ). sets l (a .at + atMax) (wordBytes (a .r .max))) (d .write-u32 .ensures)
     ∙ record-stored (a .out .now) (a .at) (a .r) (d .before .before .before .pre))
 
 pub write-record-spec : {M : Type 1} → statement M
 write-record-spec =
     tie.close
     (tie.spec
+    (λ c. search needs)
     (λ c. search needs)
     (λ c. search needs)
     slice-write-out-2

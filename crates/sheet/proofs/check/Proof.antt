@@ -7,9 +7,10 @@ use native.Mathlib.Nat.{le-of-eq}
 use native.Mathlib.Omega.{arith}
 use lib.ListN.{length, take, length-take}
 use borrow.Author.Needs.{needs}
+use Rattle.intake.specs.Limits.{maxLeaves}
 use Rattle.intake.specs.Scan.{listed}
 use Rattle.verdicts.specs.Paper.{leafSize}
-use Rattle.sheet.specs.Layout.{maxLeaves, leavesIn, leafList, tablesPart}
+use Rattle.sheet.specs.Layout.{leavesIn, leafList, tablesPart}
 use Rattle.sheet.specs.Refused.{contentsOk, leavesOk, verdictsOk, kindsOf, treesRefusal}
 use Rattle.sheet.proofs.Tests.{failed, passed}
 use Rattle.sheet.proofs.Contents.{contents, length-leaves}

@@ -1,7 +1,11 @@
 -- `measured::measure` meets its contract. Assumes nothing.
-use Prim.Native.Nat.{_+_, _-_}
+use mathlib.Core.Path.{_≡_}
+use Prim.Native.Nat.{_-_}
 use native.Mathlib.Omega.{arith}
-use Rattle.particle.proofs.MeasureStep.{MeasuredFrom, measure-start, measure-done, measure-leaf, to-items, size-fits, measure-group}
+use lib.ListN.{drop}
+use Rattle.particle.specs.Record.{recordSize, recordAt}
+use Rattle.particle.specs.Rows.{Row}
+use Rattle.particle.proofs.MeasureStep.{MeasuredFrom, none-measured, all-measured, leaf-measured, items-measured, size-fits, group-measured}
 use Rattle.particle.proofs.measured.measure.Statement.{statement}
 use Rattle.particle.proofs.measured.measure.Tie as tie
 
@@ -11,68 +15,54 @@ Inv-loop t₀ at₀ t at = MeasuredFrom t₀ t at
 abbrev μ-loop : tie.MeasureT-loop
 μ-loop t₀ at₀ t at = at
 
+-- the ways back to the start of a turn, from the test of the kind and from the items
+abbrev Turn : Type 0
+Turn = tie.In-loop Inv-loop μ-loop
+
+abbrev kind-turn : tie.After-slice-known2 Inv-loop μ-loop → Turn
+kind-turn c = c .before
+
+abbrev count-turn : tie.After-count-at Inv-loop μ-loop → Turn
+count-turn c = kind-turn (c .before .before .before)
+
+abbrev items-count : tie.After-row-len Inv-loop μ-loop → tie.After-count-at Inv-loop μ-loop
+items-count c = c .before .before .before
+
+-- what is known there
+whole : (c : Turn) → Row 1 (c .before .before .before .args .t .now)
+whole c = c .before .before .before .pre .0
+
+count : (c : tie.After-count-at Inv-loop μ-loop) → c .count-at .result ≡ recordAt (drop (count-turn c .before .loop .at - recordSize) (count-turn c .before .loop .t)) .count
+count c = c .count-at .ensures
+
 loop-holds : tie.Need-loop-holds Inv-loop μ-loop
-loop-holds c = measure-start _ (c .before .pre .0)
-
-sub-at : tie.Need-sub-at Inv-loop μ-loop
-sub-at c = omega (arith, c .before .loop .inv .even)
-
-slice-read-if1 : tie.Need-slice-read-if1 Inv-loop μ-loop
-slice-read-if1 c = omega (arith, c .before .before .loop .inv .within, c .before .before .loop .inv .same, c .before .before .loop .inv .even)
-
-add-row-len : tie.Need-add-row-len Inv-loop μ-loop
-add-row-len c = omega (arith, c .before .before .before .loop .inv .within, c .before .before .before .loop .inv .same, c .before .before .before .loop .inv .even)
-
-sub-row-len : tie.Need-sub-row-len Inv-loop μ-loop
-sub-row-len c = omega (arith, c .before .before .before .loop .inv .within, c .before .before .before .loop .inv .same, c .before .before .before .loop .inv .even)
-
-part-row-len-start : tie.Need-part-row-len-start Inv-loop μ-loop
-part-row-len-start c = omega (arith, c .before .before .before .before .loop .inv .within, c .before .before .before .before .loop .inv .same, c .before .before .before .before .loop .inv .even)
-
-part-row-len-end : tie.Need-part-row-len-end Inv-loop μ-loop
-part-row-len-end c = omega (arith, c .before .before .before .before .loop .inv .within, c .before .before .before .before .loop .inv .same, c .before .before .before .before .loop .inv .even)
-
-add-row-len-2 : tie.Need-add-row-len-2 Inv-loop μ-loop
-add-row-len-2 c = omega (arith, c .before .before .before .before .before .loop .inv .within, c .before .before .before .before .before .loop .inv .same, c .before .before .before .before .before .loop .inv .even)
-
-slice-reshared-read-row-len : tie.Need-slice-reshared-read-row-len Inv-loop μ-loop
-slice-reshared-read-row-len c = omega (arith, c .before .before .before .before .before .loop .inv .within, c .before .before .before .before .before .loop .inv .same, c .before .before .before .before .before .loop .inv .even)
-
-cast-row-len : tie.Need-cast-row-len Inv-loop μ-loop
-cast-row-len c = omega (arith, c .before .before .before .slice-known2 .given (c .before .before .before .before .before .loop .at - 12 + 2))
+loop-holds c = none-measured (c .before .pre .0)
 
 row-len-requires : tie.Need-row-len-requires Inv-loop μ-loop
-row-len-requires c κs = to-items (c .before .before .before .before .before .before .before .args .t .now) (c .before .before .before .before .before .before .before .pre .0) (c .before .before .before .before .before .loop .inv) (c .before .before .before .before .loop-test .taken)
-
-add-t : tie.Need-add-t Inv-loop μ-loop
-add-t c = omega (arith, c .before .before .before .before .before .before .loop .inv .within, c .before .before .before .before .before .before .loop .inv .same, c .before .before .before .before .before .before .loop .inv .even, size-fits (c .before .before .before .before .before .before .before .before .args .t .now) (c .before .before .before .before .before .before .before .before .pre .0) (c .before .before .before .before .before .before .loop .inv) (c .before .before .before .before .before .loop-test .taken) _ (c .row-len .ensures) (c .before .before .before .before .before .before .before .before .pre .1))
+row-len-requires c κs =
+    let k = c .before .before in
+    let m = count-turn k in
+    items-measured (whole m) (m .before .loop .inv) (m .loop-test .taken) (count k)
 
 cast-t : tie.Need-cast-t Inv-loop μ-loop
-cast-t c = omega (arith, size-fits (c .before .before .before .before .before .before .before .before .args .t .now) (c .before .before .before .before .before .before .before .before .pre .0) (c .before .before .before .before .before .before .loop .inv) (c .before .before .before .before .before .loop-test .taken) _ (c .row-len .ensures) (c .before .before .before .before .before .before .before .before .pre .1))
-
-add-t-2 : tie.Need-add-t-2 Inv-loop μ-loop
-add-t-2 c = omega (arith, c .before .before .before .before .before .before .loop .inv .within, c .before .before .before .before .before .before .loop .inv .same, c .before .before .before .before .before .before .loop .inv .even, size-fits (c .before .before .before .before .before .before .before .before .args .t .now) (c .before .before .before .before .before .before .before .before .pre .0) (c .before .before .before .before .before .before .loop .inv) (c .before .before .before .before .before .loop-test .taken) _ (c .row-len .ensures) (c .before .before .before .before .before .before .before .before .pre .1))
-
-slice-write-t : tie.Need-slice-write-t Inv-loop μ-loop
-slice-write-t c = omega (arith, c .before .before .before .before .before .before .loop .inv .within, c .before .before .before .before .before .before .loop .inv .same, c .before .before .before .before .before .before .loop .inv .even, size-fits (c .before .before .before .before .before .before .before .before .args .t .now) (c .before .before .before .before .before .before .before .before .pre .0) (c .before .before .before .before .before .before .loop .inv) (c .before .before .before .before .before .loop-test .taken) _ (c .row-len .ensures) (c .before .before .before .before .before .before .before .before .pre .1))
-
-loop-less : tie.Need-loop-less Inv-loop μ-loop
-loop-less c = omega (arith, c .before .before .before .before .before .before .loop .inv .even)
+cast-t c =
+    let k = items-count c in
+    let m = count-turn k in
+    omega (arith, size-fits (whole m) (m .before .loop .inv) (m .loop-test .taken) (count k) (c .row-len .ensures) (m .before .before .before .pre .1))
 
 loop-again : tie.Need-loop-again Inv-loop μ-loop
-loop-again c = measure-group (c .before .before .before .before .before .before .before .before .args .t .now) (c .before .before .before .before .before .before .before .before .pre .0) (c .before .before .before .before .before .before .loop .inv) (c .before .before .before .before .before .loop-test .taken) _ (c .row-len .ensures) (c .before .before .before .if1 .taken)
-
-loop-less-2 : tie.Need-loop-less-2 Inv-loop μ-loop
-loop-less-2 c = omega (arith, c .before .before .before .loop .inv .even)
+loop-again c =
+    let k = items-count c in
+    let m = count-turn k in
+    group-measured (whole m) (m .before .loop .inv) (m .loop-test .taken) (count k) (c .row-len .ensures) (k .before .before .if1 .taken)
 
 loop-again-2 : tie.Need-loop-again-2 Inv-loop μ-loop
-loop-again-2 c = measure-leaf (c .before .before .before .before .before .args .t .now) (c .before .before .before .before .before .pre .0) (c .before .before .before .loop .inv) (c .before .before .loop-test .taken) (λ g. omega (arith, c .if1 .left))
-
-same-length : tie.Need-same-length Inv-loop μ-loop
-same-length c = c .before .loop .inv .same
+loop-again-2 c =
+    let m = kind-turn (c .before) in
+    leaf-measured (whole m) (m .before .loop .inv) (m .loop-test .taken) (c .if1 .left)
 
 returns : tie.Need-returns Inv-loop μ-loop
-returns c = measure-done _ (c .before .before .before .pre .0) (c .before .loop .inv) (c .loop-test .left)
+returns c = all-measured (c .before .before .before .pre .0) (c .before .loop .inv) (c .loop-test .left)
 
 pub measure-spec : {M : Type 1} → statement M
 measure-spec =
@@ -81,23 +71,22 @@ measure-spec =
     Inv-loop
     μ-loop
     loop-holds
-    sub-at
-    slice-read-if1
-    add-row-len
-    sub-row-len
-    part-row-len-start
-    part-row-len-end
-    add-row-len-2
-    slice-reshared-read-row-len
-    cast-row-len
+    (λ c. omega arith)
+    (λ c. omega arith)
+    (λ c. omega arith)
+    (λ c κs. omega arith)
+    (λ c. omega arith)
+    (λ c. omega arith)
+    (λ c. omega arith)
+    (λ c. omega arith)
     row-len-requires
-    add-t
+    (λ c. omega arith)
     cast-t
-    add-t-2
-    slice-write-t
-    loop-less
+    (λ c. omega arith)
+    (λ c. omega arith)
+    (λ c. omega arith)
     loop-again
-    loop-less-2
+    (λ c. omega arith)
     loop-again-2
-    same-length
+    (λ c. omega arith)
     returns)

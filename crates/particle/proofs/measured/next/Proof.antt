@@ -3,8 +3,8 @@ use mathlib.Core.Path.{_≡_, ap, _∙_}
 use Prim.Native.Nat.{ℕ, _*_, _≤_}
 use native.Mathlib.Omega.{arith}
 use borrow.Author.Needs.{needs}
-use lib.ListN.{length, drop, getD}
-use Rattle.particle.specs.Record.{recordSize}
+use lib.ListN.{length, drop}
+use Rattle.particle.specs.Record.{recordSize, atLeaf, recordAt}
 use Rattle.particle.specs.Rows.{runSize}
 use Rattle.particle.proofs.Laws.{part-is, run-within, some-bytes}
 use Rattle.particle.proofs.Runs.{group-run}
@@ -18,15 +18,15 @@ shared-slice-read-n : tie.Need-shared-slice-read-n
 shared-slice-read-n c = omega (arith, some-bytes (c .before .before .before .before .pre .row))
 
 cast-n : tie.Need-cast-n
-cast-n c = omega (arith, c .shared-slice-known3 .given 1)
+cast-n c = omega (arith, c .shared-slice-known3 .given atLeaf)
 
 mul-n : tie.Need-mul-n
-mul-n c = omega (arith, c .shared-slice-known3 .given 1)
+mul-n c = omega (arith, c .shared-slice-known3 .given atLeaf)
 
-run : (c : tie.After-shared-slice-known3) → recordSize * getD (c .before .before .before .before .args .t .now) 1 0 ≡ runSize (c .before .before .before .before .args .t .now)
+run : (c : tie.After-shared-slice-known3) → recordSize * recordAt (c .before .before .before .before .args .t .now) .leaf ≡ runSize (c .before .before .before .before .args .t .now)
 run c = group-run (c .before .before .before .before .pre) (omega (arith, c .before .if1 .left))
 
-within : (c : tie.After-shared-slice-known3) → recordSize * getD (c .before .before .before .before .args .t .now) 1 0 ≤ length (c .before .before .before .before .args .t .now)
+within : (c : tie.After-shared-slice-known3) → recordSize * recordAt (c .before .before .before .before .args .t .now) .leaf ≤ length (c .before .before .before .before .args .t .now)
 within c = rw (run c) (run-within (c .before .before .before .before .args .t .now))
 
 sub-result : tie.Need-sub-result
@@ -38,7 +38,7 @@ part-result-start c = within c
 returns-2 : tie.Need-returns-2
 returns-2 c =
     let t = c .before .before .before .before .before .args .t .now in
-    part-is t (recordSize * getD t 1 0) ∙ ap (λ (n : ℕ). drop n t) (run (c .before))
+    part-is t (recordSize * recordAt t .leaf) ∙ ap (λ (n : ℕ). drop n t) (run (c .before))
 
 pub next-spec : {M : Type 1} → statement M
 next-spec =

@@ -2,7 +2,8 @@
 use mathlib.Core.Path.{_≡_, ap, _∙_}
 use borrow.Author.Needs.{needs}
 use Rattle.particle.specs.Record.{maxRecords}
-use Rattle.sheet.specs.Layout.{maxLeaves, leafCount, derivedCount}
+use Rattle.intake.specs.Limits.{maxLeaves}
+use Rattle.sheet.specs.Layout.{leafCount, derivedCount}
 use Rattle.sheet.specs.Refused.{inRange}
 use Rattle.sheet.proofs.Tests.{stops, goes, failed, passed}
 use Rattle.sheet.proofs.layout.counts_ok.Statement.{statement}
