@@ -66,52 +66,108 @@ extern "C" {
 #define MARKER_BEYOND UINT64_C(4294967296)  /* added to a refusal's number */
 #define MARKER_UNBOUNDED MARKER_BEYOND      /* an unbounded maximum */
 
-/* Why a sheet fails. 140 to 152 are reasons that the paper sets. */
+/* Why a sheet fails, in docs/KEY.md's words. The paper sets 140 to 152. */
 enum marker_reason {
-    MARKER_ELEMENT_WILDCARD_RANGE = 101,  /* element, wildcard: range */
-    MARKER_WILDCARD_ELEMENT = 102,        /* a wildcard against an element */
-    MARKER_WILDCARD_RANGE = 103,          /* wildcard, wildcard: range */
-    MARKER_WEAKER_PROCESS_CONTENTS = 104, /* weaker process contents */
-    MARKER_SEQUENCE_RANGE = 105,          /* sequence, sequence: range */
-    MARKER_CHOICE_RANGE = 106,            /* choice, choice: range */
-    MARKER_ALL_RANGE = 107,               /* all, all: range */
-    MARKER_NOT_IN_ALL = 108,              /* no untaken base element of the name */
-    MARKER_MISSING_FROM_ALL = 109,        /* untaken base element, minimum above 0 */
-    MARKER_SEQUENCE_REQUIRED = 110,       /* base sequence: minimum above 1 (*) */
-    MARKER_NO_ALTERNATIVE = 111,          /* no alternative for the element (*) */
-    MARKER_CHOICE_REQUIRED = 112,         /* base choice: minimum above 1 (*) */
-    MARKER_TOTAL_RANGE = 113,             /* group, wildcard: total range */
-    MARKER_WILDCARD_GROUP = 114,          /* a wildcard against a group */
-    MARKER_GROUP_KIND = 115,              /* kinds of group that do not fit */
-    MARKER_SEQUENCE_TOTAL = 116,          /* sequence, choice: pair times item count */
-    MARKER_MEMBER_ALTERNATIVE = 117,      /* sequence, choice: no alternative */
-    MARKER_SEQUENCE_ALL_RANGE = 118,      /* sequence, all: range */
-    MARKER_MEMBER_NOT_ELEMENT = 119,      /* sequence, all: item is no element */
-    MARKER_NOT_ALLOWED = 120,             /* walk: base items used up */
-    MARKER_REQUIRED_MISSING = 121,        /* walk: required base item left over */
-    MARKER_MIN_BELOW = 122,               /* element, element: minimum below */
-    MARKER_MAX_UNBOUNDED = 123,           /* element, element: maximum unbounded */
-    MARKER_MAX_ABOVE = 124,               /* element, element: maximum above */
-    MARKER_LEAST_SET = 140,               /* the first that the paper sets */
-    MARKER_MOST_SET = 152                 /* the last */
+    /* element, wildcard: the range isn't within the base's */
+    MARKER_ELEMENT_WILDCARD_RANGE = 101,
+    /* wildcard, element: a wildcard can't restrict an element */
+    MARKER_WILDCARD_ELEMENT = 102,
+    /* wildcard, wildcard: the range isn't within the base's */
+    MARKER_WILDCARD_RANGE = 103,
+    /* wildcard, wildcard: weaker process contents */
+    MARKER_WEAKER_PROCESS_CONTENTS = 104,
+    /* sequence, sequence: the range isn't within the base's */
+    MARKER_SEQUENCE_RANGE = 105,
+    /* choice, choice: the range isn't within the base's */
+    MARKER_CHOICE_RANGE = 106,
+    /* all, all: the range isn't within the base's */
+    MARKER_ALL_RANGE = 107,
+    /* an item against an all-group: no untaken base element has its local
+     * name number */
+    MARKER_NOT_IN_ALL = 108,
+    /* against an all-group: a base element of minimum above 0 is left
+     * untaken */
+    MARKER_MISSING_FROM_ALL = 109,
+    /* element, sequence: the base minimum is above 1 (second reading, which
+     * no mark shows) */
+    MARKER_SEQUENCE_REQUIRED = 110,
+    /* element, choice: no alternative passes (second reading, which no mark
+     * shows) */
+    MARKER_NO_ALTERNATIVE = 111,
+    /* element, choice: the base minimum is above 1 (second reading, which no
+     * mark shows) */
+    MARKER_CHOICE_REQUIRED = 112,
+    /* group, wildcard: the total range isn't within the base's */
+    MARKER_TOTAL_RANGE = 113,
+    /* wildcard, group: a wildcard can't restrict a group */
+    MARKER_WILDCARD_GROUP = 114,
+    /* all against sequence or choice, or choice against sequence or all */
+    MARKER_GROUP_KIND = 115,
+    /* sequence, choice: the pair times the item count isn't within the base
+     * pair */
+    MARKER_SEQUENCE_TOTAL = 116,
+    /* sequence, choice: a member restricts none of the alternatives */
+    MARKER_MEMBER_ALTERNATIVE = 117,
+    /* sequence, all: the range isn't within the base's */
+    MARKER_SEQUENCE_ALL_RANGE = 118,
+    /* sequence, all: an item that isn't an element */
+    MARKER_MEMBER_NOT_ELEMENT = 119,
+    /* ordered walk: a derived item is left and the base items are used up */
+    MARKER_NOT_ALLOWED = 120,
+    /* ordered walk: a base item is left over that isn't emptiable */
+    MARKER_REQUIRED_MISSING = 121,
+    /* element, element: the minimum is below the base's */
+    MARKER_MIN_BELOW = 122,
+    /* element, element: the maximum is unbounded, the base's isn't */
+    MARKER_MAX_UNBOUNDED = 123,
+    /* element, element: the maximum is above the base's */
+    MARKER_MAX_ABOVE = 124,
+    /* the first reason that the paper sets */
+    MARKER_LEAST_SET = 140,
+    /* the last */
+    MARKER_MOST_SET = 152
 };
-/* (*) Only in an element's second reading, whose reason is never the mark's. */
 
-/* Why a sheet or a tree is refused. A tree alone is refused as a derived one. */
+/* Why a sheet or a tree is refused, in docs/KEY.md's words. */
 enum marker_refusal {
-    MARKER_REFUSAL_CONTENTS = 1,           /* length or contents of the sheet */
-    MARKER_REFUSAL_BUFFER = 2,             /* out is shorter than the tree */
-    MARKER_REFUSAL_LEAF = 3,               /* a leaf */
-    MARKER_REFUSAL_VERDICT = 4,            /* a verdict */
-    MARKER_REFUSAL_BASE_FIELDS = 5,        /* base tree: a record's fields */
-    MARKER_REFUSAL_BASE_PAIR = 6,          /* minimum above a bounded maximum */
-    MARKER_REFUSAL_BASE_ALL_GROUP = 7,     /* an all's maximum or item */
-    MARKER_REFUSAL_BASE_DEPTH = 8,         /* depth above 12 */
-    MARKER_REFUSAL_BASE_COUNTS = 9,        /* item counts, or records, do not fit */
-    MARKER_REFUSAL_DERIVED_FIELDS = 10,    /* derived tree, or a tree alone: */
-    MARKER_REFUSAL_DERIVED_PAIR = 11,      /* the same five */
+    /* the caller's mistake: sheet under 8 bytes, a contents field out of its
+     * range, or total field or actual length unlike the formula */
+    MARKER_REFUSAL_CONTENTS = 1,
+    /* the caller's mistake: buffer shorter than the tree handed in, which no
+     * sheet shows */
+    MARKER_REFUSAL_BUFFER = 2,
+    /* the examiner's mistake: the fields of a leaf are out of order */
+    MARKER_REFUSAL_LEAF = 3,
+    /* the examiner's mistake: a verdict that is not 0, 1 or 140 to 152 */
+    MARKER_REFUSAL_VERDICT = 4,
+    /* the examiner's mistake: base tree, the fields of a record are out of
+     * order */
+    MARKER_REFUSAL_BASE_FIELDS = 5,
+    /* the examiner's mistake: base tree, the minimum is above a bounded
+     * maximum */
+    MARKER_REFUSAL_BASE_PAIR = 6,
+    /* the examiner's mistake: base tree, an all-group's maximum isn't 1, or
+     * an all's item is no element */
+    MARKER_REFUSAL_BASE_ALL_GROUP = 7,
+    /* the examiner's mistake: base tree, the depth is above 12 */
+    MARKER_REFUSAL_BASE_DEPTH = 8,
+    /* the examiner's mistake: base tree, the item counts need fewer or more
+     * records */
+    MARKER_REFUSAL_BASE_COUNTS = 9,
+    /* the candidate's mistake: derived tree, or a tree alone, the fields of
+     * a record are out of order */
+    MARKER_REFUSAL_DERIVED_FIELDS = 10,
+    /* the candidate's mistake: derived tree, or a tree alone, the minimum is
+     * above a bounded maximum */
+    MARKER_REFUSAL_DERIVED_PAIR = 11,
+    /* the candidate's mistake: derived tree, or a tree alone, an all-group's
+     * maximum isn't 1, or an all's item is no element */
     MARKER_REFUSAL_DERIVED_ALL_GROUP = 12,
+    /* the candidate's mistake: derived tree, or a tree alone, the depth is
+     * above 12 */
     MARKER_REFUSAL_DERIVED_DEPTH = 13,
+    /* the candidate's mistake: derived tree, or a tree alone, the item
+     * counts need fewer or more records */
     MARKER_REFUSAL_DERIVED_COUNTS = 14
 };
 

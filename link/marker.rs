@@ -14,8 +14,8 @@
 
 use core::fmt;
 
-// As link/marker.h declares them: a slice is a pointer and a length. Nothing
-// but the tests checks these lines against the archive.
+// As link/marker.h declares them: a slice is a pointer and a length. That these
+// lines are those of crates/exports is held by link/check-names.
 extern "C" {
     fn marker_mark(sheet: *const u8, sheet_len: usize) -> u32;
     fn marker_total_min(tree: *const u8, tree_len: usize) -> u64;
@@ -105,52 +105,67 @@ macro_rules! numbers {
 numbers! {
     /// Why a sheet fails: 101 to 124, or 140 to 152 for a reason that the paper
     /// sets. 110 to 112 arise only in an element's second reading, whose reason
-    /// is never the mark's. It displays as words.
+    /// is never the mark's. It displays as the words of docs/KEY.md.
     Reason, "a reason that the paper sets":
-    101 ELEMENT_WILDCARD_RANGE "element, wildcard: range"
-    102 WILDCARD_ELEMENT "a wildcard against an element"
-    103 WILDCARD_RANGE "wildcard, wildcard: range"
-    104 WEAKER_PROCESS_CONTENTS "weaker process contents"
-    105 SEQUENCE_RANGE "sequence, sequence: range"
-    106 CHOICE_RANGE "choice, choice: range"
-    107 ALL_RANGE "all, all: range"
-    108 NOT_IN_ALL "no untaken base element of the name"
-    109 MISSING_FROM_ALL "untaken base element, minimum above 0"
-    110 SEQUENCE_REQUIRED "base sequence: minimum above 1"
-    111 NO_ALTERNATIVE "no alternative for the element"
-    112 CHOICE_REQUIRED "base choice: minimum above 1"
-    113 TOTAL_RANGE "group, wildcard: total range"
-    114 WILDCARD_GROUP "a wildcard against a group"
-    115 GROUP_KIND "kinds of group that do not fit"
-    116 SEQUENCE_TOTAL "sequence, choice: pair times item count"
-    117 MEMBER_ALTERNATIVE "sequence, choice: no alternative"
-    118 SEQUENCE_ALL_RANGE "sequence, all: range"
-    119 MEMBER_NOT_ELEMENT "sequence, all: item is no element"
-    120 NOT_ALLOWED "walk: base items used up"
-    121 REQUIRED_MISSING "walk: required base item left over"
-    122 MIN_BELOW "element, element: minimum below"
-    123 MAX_UNBOUNDED "element, element: maximum unbounded"
-    124 MAX_ABOVE "element, element: maximum above"
+    101 ELEMENT_WILDCARD_RANGE "element, wildcard: the range isn't within the base's"
+    102 WILDCARD_ELEMENT "wildcard, element: a wildcard can't restrict an element"
+    103 WILDCARD_RANGE "wildcard, wildcard: the range isn't within the base's"
+    104 WEAKER_PROCESS_CONTENTS "wildcard, wildcard: weaker process contents"
+    105 SEQUENCE_RANGE "sequence, sequence: the range isn't within the base's"
+    106 CHOICE_RANGE "choice, choice: the range isn't within the base's"
+    107 ALL_RANGE "all, all: the range isn't within the base's"
+    108 NOT_IN_ALL "an item against an all-group: no untaken base element has its local name number"
+    109 MISSING_FROM_ALL "against an all-group: a base element of minimum above 0 is left untaken"
+    110 SEQUENCE_REQUIRED
+        "element, sequence: the base minimum is above 1 (second reading, which no mark shows)"
+    111 NO_ALTERNATIVE
+        "element, choice: no alternative passes (second reading, which no mark shows)"
+    112 CHOICE_REQUIRED
+        "element, choice: the base minimum is above 1 (second reading, which no mark shows)"
+    113 TOTAL_RANGE "group, wildcard: the total range isn't within the base's"
+    114 WILDCARD_GROUP "wildcard, group: a wildcard can't restrict a group"
+    115 GROUP_KIND "all against sequence or choice, or choice against sequence or all"
+    116 SEQUENCE_TOTAL "sequence, choice: the pair times the item count isn't within the base pair"
+    117 MEMBER_ALTERNATIVE "sequence, choice: a member restricts none of the alternatives"
+    118 SEQUENCE_ALL_RANGE "sequence, all: the range isn't within the base's"
+    119 MEMBER_NOT_ELEMENT "sequence, all: an item that isn't an element"
+    120 NOT_ALLOWED "ordered walk: a derived item is left and the base items are used up"
+    121 REQUIRED_MISSING "ordered walk: a base item is left over that isn't emptiable"
+    122 MIN_BELOW "element, element: the minimum is below the base's"
+    123 MAX_UNBOUNDED "element, element: the maximum is unbounded, the base's isn't"
+    124 MAX_ABOVE "element, element: the maximum is above the base's"
 }
 
 numbers! {
     /// Why a sheet or a tree is refused: 1 to 14. A tree alone is refused as a
-    /// derived tree is. It displays as words.
+    /// derived tree is. It displays as the words of docs/KEY.md.
     Refusal, "no refusal of document 01":
-    1 CONTENTS "length or contents of the sheet"
-    2 BUFFER "the buffer is shorter than the tree"
-    3 LEAF "a leaf"
-    4 VERDICT "a verdict"
-    5 BASE_FIELDS "base tree: a record's fields"
-    6 BASE_PAIR "base tree: minimum above a bounded maximum"
-    7 BASE_ALL_GROUP "base tree: an all's maximum or item"
-    8 BASE_DEPTH "base tree: depth above 12"
-    9 BASE_COUNTS "base tree: item counts, or records, do not fit"
-    10 DERIVED_FIELDS "derived tree, or a tree alone: a record's fields"
-    11 DERIVED_PAIR "derived tree, or a tree alone: minimum above a bounded maximum"
-    12 DERIVED_ALL_GROUP "derived tree, or a tree alone: an all's maximum or item"
-    13 DERIVED_DEPTH "derived tree, or a tree alone: depth above 12"
-    14 DERIVED_COUNTS "derived tree, or a tree alone: item counts, or records, do not fit"
+    1 CONTENTS
+        "the caller's mistake: sheet under 8 bytes, a contents field out of its range, or total \
+         field or actual length unlike the formula"
+    2 BUFFER "the caller's mistake: buffer shorter than the tree handed in, which no sheet shows"
+    3 LEAF "the examiner's mistake: the fields of a leaf are out of order"
+    4 VERDICT "the examiner's mistake: a verdict that is not 0, 1 or 140 to 152"
+    5 BASE_FIELDS "the examiner's mistake: base tree, the fields of a record are out of order"
+    6 BASE_PAIR "the examiner's mistake: base tree, the minimum is above a bounded maximum"
+    7 BASE_ALL_GROUP
+        "the examiner's mistake: base tree, an all-group's maximum isn't 1, or an all's item is \
+         no element"
+    8 BASE_DEPTH "the examiner's mistake: base tree, the depth is above 12"
+    9 BASE_COUNTS "the examiner's mistake: base tree, the item counts need fewer or more records"
+    10 DERIVED_FIELDS
+        "the candidate's mistake: derived tree, or a tree alone, the fields of a record are out \
+         of order"
+    11 DERIVED_PAIR
+        "the candidate's mistake: derived tree, or a tree alone, the minimum is above a bounded \
+         maximum"
+    12 DERIVED_ALL_GROUP
+        "the candidate's mistake: derived tree, or a tree alone, an all-group's maximum isn't 1, \
+         or an all's item is no element"
+    13 DERIVED_DEPTH "the candidate's mistake: derived tree, or a tree alone, the depth is above 12"
+    14 DERIVED_COUNTS
+        "the candidate's mistake: derived tree, or a tree alone, the item counts need fewer or \
+         more records"
 }
 
 /// A total range: its least and its greatest number.

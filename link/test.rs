@@ -287,8 +287,10 @@ fn words() {
     assert_eq!(changed(&[(FIRST, 1)]).to_string(), "undecided");
     assert_eq!(Mark::Fails(Reason::MIN_BELOW).to_string(), "fails 122");
     assert_eq!(mark(&[]).to_string(), "refused 1");
-    assert_eq!(Reason::MIN_BELOW.to_string(), "element, element: minimum below");
-    assert_eq!(Refusal::BUFFER.to_string(), "the buffer is shorter than the tree");
+    assert_eq!(Reason::MIN_BELOW.to_string(), "element, element: the minimum is below the base's");
+    let words =
+        "the caller's mistake: buffer shorter than the tree handed in, which no sheet shows";
+    assert_eq!(Refusal::BUFFER.to_string(), words);
     let Mark::Fails(set) = changed(&[(FIRST, 140)]) else { panic!("140 is a reason") };
     assert_eq!(set.to_string(), "a reason that the paper sets");
 }

@@ -184,6 +184,11 @@ class Words(unittest.TestCase):
         for number in range(140, 153):
             self.assertEqual(in_words("fails", number), "a reason that the paper sets")
 
+    def test_words_are_those_of_the_key(self):
+        rows = KEY.read_text(encoding="utf-8").splitlines()
+        for number, (words, rules) in [*REASONS.items(), *REFUSALS.items()]:
+            self.assertIn(f"| {number} | {words} | {rules} |", rows)
+
     def test_rules_stand_in_the_key(self):
         key = KEY.read_text(encoding="utf-8")
         known = set(re.findall(r"^(?:\| |## )(\w+)", key, re.MULTILINE))

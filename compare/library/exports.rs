@@ -1,6 +1,6 @@
 //! The proved library's entries, exported with a C ABI, behind safe functions.
-//! `BEYOND` and `REFUSED` stand in common/answers.rs. Nothing checks these
-//! declarations against the archive: keep them beside crates/exports.
+//! `BEYOND` and `REFUSED` stand in common/answers.rs. `link/check-names` holds
+//! these declarations to crates/exports.
 
 unsafe extern "C" {
     fn marker_total_min(tree: *const u8, len: usize) -> u64;
