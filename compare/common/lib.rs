@@ -1,0 +1,10 @@
+//! What every folder of the comparison uses: trees and sheets with their bytes,
+//! document 01's notation, the numbers of the library's answers, random
+//! numbers, and the command line.
+
+pub mod answers;
+pub mod notation;
+pub mod options;
+pub mod random;
+pub mod sheet;
+pub mod tree;

@@ -1,0 +1,104 @@
+//! Random accepted sheets: 1 to 64 leaves, trees of 1 to 255 records and depth
+//! up to 12. Most derived trees are made from the base tree (narrow.rs), and
+//! many of these are then spoiled in one place (spoil.rs).
+
+use common::random::Rng;
+use common::sheet::{Leaf, MOST_LEAVES, Sheet};
+use common::tree::{Kind, MOST_DEPTH, MOST_RECORDS, Tree};
+
+use crate::leaves::{self, Paper};
+use crate::narrow::Narrower;
+use crate::{change, cost, disguise, spoil, trees};
+
+/// What the oracle may be asked in one sheet (cost.rs).
+pub const MOST_JUDGEMENTS: u64 = 500_000;
+
+#[derive(Clone, Copy, PartialEq)]
+pub enum Size {
+    /// Trees of few records over few leaves.
+    Small,
+    Any,
+}
+
+pub fn sheet(rng: &mut Rng, size: Size) -> Sheet {
+    loop {
+        let sheet = draw(rng, size);
+        if cost::judgements(&sheet.derived, &sheet.base) <= MOST_JUDGEMENTS {
+            return sheet;
+        }
+    }
+}
+
+fn draw(rng: &mut Rng, size: Size) -> Sheet {
+    let count = match rng.below(20) {
+        0 => 1,
+        1..15 => rng.within(2, 7),
+        _ if size == Size::Small => rng.within(2, 7),
+        15..18 => rng.within(8, 24),
+        _ => rng.pick(&[25, 33, 63, MOST_LEAVES]),
+    };
+    let paper = leaves::paper(rng, count);
+    let mut base = tree(rng, &paper.leaves, size);
+    let mut derived =
+        if rng.one_in(8) { tree(rng, &paper.leaves, size) } else { narrowed(rng, &paper, &base) };
+    for tree in [&mut derived, &mut base] {
+        for _ in 0..rng.pick(&[0, 0, 0, 1, 2]) {
+            change::one(rng, tree, &paper.leaves, &disguise::CHANGES);
+        }
+    }
+    if rng.one_in(16) {
+        std::mem::swap(&mut derived, &mut base);
+    }
+    let Paper { leaves, first, second } = paper;
+    Sheet { leaves, first, second, derived, base }
+}
+
+/// A narrowed base, half of them spoiled, mostly in one place.
+fn narrowed(rng: &mut Rng, paper: &Paper, base: &Tree) -> Tree {
+    let mut derived = Narrower { rng, paper }.tree(base, MOST_DEPTH);
+    if derived.records() > MOST_RECORDS {
+        derived = base.clone();
+    }
+    for _ in 0..rng.pick(&[0, 0, 0, 1, 1, 2]) {
+        change::one(rng, &mut derived, &paper.leaves, &spoil::CHANGES);
+    }
+    derived
+}
+
+fn tree(rng: &mut Rng, leaves: &[Leaf], size: Size) -> Tree {
+    let records = match rng.below(12) {
+        0..6 => rng.within(1, 9),
+        _ if size == Size::Small => rng.within(1, 9),
+        6..9 => rng.within(10, 30),
+        9..11 => rng.within(31, 100),
+        _ if rng.one_in(2) => rng.within(101, MOST_RECORDS),
+        _ => rng.pick(&[MOST_RECORDS - 1, MOST_RECORDS]),
+    };
+    let mut tree = if rng.one_in(10) {
+        trees::tree_of(rng, records)
+    } else {
+        trees::usual_tree_of(rng, records)
+    };
+    fit(rng, &mut tree, leaves);
+    tree
+}
+
+/// Gives each leaf of a tree a number of the sheet, of its own kind if the
+/// sheet has such a leaf. An all-group without elements loses its items.
+fn fit(rng: &mut Rng, tree: &mut Tree, leaves: &[Leaf]) {
+    let some = |kind| leaves.iter().any(|leaf| leaf.kind == kind);
+    if tree.kind == Kind::All && !some(Kind::Element) {
+        tree.items.clear();
+    }
+    if tree.kind.is_leaf() {
+        let wanted = if some(tree.kind) { tree.kind } else { leaves[0].kind };
+        let from = rng.below(leaves.len());
+        let mut numbers = (from..leaves.len()).chain(0..from);
+        let number = numbers.find(|number| leaves[*number].kind == wanted);
+        tree.leaf = number.expect("a leaf of this kind") as u8;
+        tree.kind = wanted;
+    }
+    for item in &mut tree.items {
+        fit(rng, item, leaves);
+    }
+}

@@ -1,0 +1,70 @@
+//! Prints document 01's examples with what the oracle says of them, then the
+//! cases by which doubtful places of document 01 were settled. Exit status 1
+//! where the oracle says something else than is stated beside the example.
+
+use cases::stated::{self, EXAMPLES, Marked, SETTLED};
+use common::notation::parse;
+use oracle::bridge::{self, Leaves};
+use oracle::doors;
+
+const TOTALS: [(&str, &str); 2] = [
+    ("S(65535,65535)[a(65537,65537)]", "4294967295, 4294967295"),
+    ("S(65536,65536)[a(65536,65536)]", "4294967295, unbounded"),
+];
+
+const TIDIED: [(&str, &str); 1] = [("S(2,3)[C[a,b]]", "C(2,3)[a,b]")];
+
+const SETTLED_TIDIED: [(&str, &str); 4] = [
+    ("S(0,1)[C[S[]]]", "S(0,1)[]"),
+    ("C(0,1)[S[]]", "C(0,1)[S[]]"),
+    ("A(0,1)[a(0,0)]", "A(0,1)[a(0,0)]"),
+    ("C[a,C[]]", "a"),
+];
+
+fn main() {
+    let mut wrong = 0;
+    println!("Document 01's examples:");
+    marks(&EXAMPLES, &mut wrong);
+    totals(&TOTALS, &mut wrong);
+    tidied(&TIDIED, &mut wrong);
+    println!("Settled places:");
+    marks(&SETTLED, &mut wrong);
+    tidied(&SETTLED_TIDIED, &mut wrong);
+    if wrong > 0 {
+        println!("{wrong} examples differ from what is stated");
+        std::process::exit(1);
+    }
+    println!("every example is as stated");
+}
+
+fn show(example: String, got: String, stated: &str, wrong: &mut u32) {
+    if got == stated {
+        println!("  {example}: {got}");
+    } else {
+        *wrong += 1;
+        println!("  {example}: {got}, STATED {stated}");
+    }
+}
+
+fn marks(examples: &[Marked], wrong: &mut u32) {
+    for (derived, base, also, stated) in examples {
+        let got = bridge::mark(&stated::sheet(derived, base, also)).to_string();
+        show(format!("{derived} | {base}{also}"), got, stated, wrong);
+    }
+}
+
+fn totals(examples: &[(&str, &str)], wrong: &mut u32) {
+    for (text, stated) in examples {
+        let (min, max) = doors::effective_total_range(&Leaves::none().particle(&parse(text)));
+        let max = max.map_or("unbounded".into(), |m| m.to_string());
+        show(format!("total of {text}"), format!("{min}, {max}"), stated, wrong);
+    }
+}
+
+fn tidied(examples: &[(&str, &str)], wrong: &mut u32) {
+    for (text, stated) in examples {
+        let tidy = doors::normalize(&Leaves::none().particle(&parse(text)));
+        let got = bridge::tree(&tidy).to_string();
+        show(format!("tidy {text}"), got, stated, wrong);
+    }
+}

@@ -1,0 +1,6 @@
+//! What the library must answer, in its numbers (common/answers.rs): a refusal
+//! where the second reading finds one, and otherwise what the oracle says. The
+//! comparisons, the stored answers and the benchmark take it from here.
+
+pub mod sheet;
+pub mod tree;

@@ -1,0 +1,49 @@
+//! The proved library's entries, exported with a C ABI, behind safe functions.
+//! `BEYOND` and `REFUSED` stand in common/answers.rs. Nothing checks these
+//! declarations against the archive: keep them beside crates/exports.
+
+unsafe extern "C" {
+    fn marker_total_min(tree: *const u8, len: usize) -> u64;
+    fn marker_total_max(tree: *const u8, len: usize) -> u64;
+    fn marker_emptiable(tree: *const u8, len: usize) -> u32;
+    fn marker_tidy(tree: *const u8, len: usize, out: *mut u8, out_len: usize) -> u64;
+    fn marker_item(tree: *const u8, len: usize, k: usize, out: *mut u8, out_len: usize) -> usize;
+    fn marker_mark(sheet: *const u8, len: usize) -> u32;
+}
+
+/// The total range's minimum; or `BEYOND` + N where the tree is refused with N.
+pub fn total_min(tree: &[u8]) -> u64 {
+    unsafe { marker_total_min(tree.as_ptr(), tree.len()) }
+}
+
+/// The total range's maximum, `BEYOND` where it is unbounded; or `BEYOND` + N
+/// where the tree is refused with N.
+pub fn total_max(tree: &[u8]) -> u64 {
+    unsafe { marker_total_max(tree.as_ptr(), tree.len()) }
+}
+
+/// 1 yes, 0 no; or N where the tree is refused with N.
+pub fn emptiable(tree: &[u8]) -> u32 {
+    unsafe { marker_emptiable(tree.as_ptr(), tree.len()) }
+}
+
+/// The length in bytes of the root's k-th item, 0 where the tree is refused or
+/// k is not below the item count. The item is written to the start of `out`
+/// where it fits, otherwise nothing is written.
+pub fn item(tree: &[u8], k: usize, out: &mut [u8]) -> usize {
+    unsafe { marker_item(tree.as_ptr(), tree.len(), k, out.as_mut_ptr(), out.len()) }
+}
+
+/// The record count of the tidied tree, which is written to the start of
+/// `out`; or `BEYOND` + N where it is refused with N, and nothing is written.
+pub fn tidy(tree: &[u8], out: &mut [u8]) -> u64 {
+    unsafe { marker_tidy(tree.as_ptr(), tree.len(), out.as_mut_ptr(), out.len()) }
+}
+
+/// A sheet's mark: 0 passes, 1 undecided, the reason's number where it fails;
+/// or `REFUSED` + N where it is refused with N.
+// Inlined, so that the benchmark times the call alone.
+#[inline]
+pub fn mark(sheet: &[u8]) -> u32 {
+    unsafe { marker_mark(sheet.as_ptr(), sheet.len()) }
+}

@@ -1,0 +1,5 @@
+//! The proved library, as its archive exports it.
+
+mod exports;
+
+pub use exports::*;

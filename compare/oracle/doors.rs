@@ -1,0 +1,61 @@
+//! A module inside the original one, whose functions and verdict are private:
+//! the verdict tables go in here (`first`, `second`, called by the patched
+//! places), and the original functions come out.
+
+use super::Verdict;
+use crate::reasons::{self, Mark};
+use crate::stubs::{CompiledSchema, Particle};
+
+/// The first table's verdict on two elements.
+pub(super) fn first(derived: u8, base: u8, schema: &CompiledSchema) -> Verdict {
+    verdict(schema.first[place(derived, base, schema)])
+}
+
+/// The second table's verdict on two leaves.
+pub(super) fn second(derived: u8, base: u8, schema: &CompiledSchema) -> Verdict {
+    verdict(schema.second[place(derived, base, schema)])
+}
+
+fn place(derived: u8, base: u8, schema: &CompiledSchema) -> usize {
+    usize::from(derived) * schema.leaves + usize::from(base)
+}
+
+fn verdict(number: u8) -> Verdict {
+    match number {
+        0 => Verdict::Ok,
+        1 => Verdict::Unknown,
+        140..=152 => Verdict::Violation(reasons::set_by_paper(number)),
+        _ => panic!("{number} is no verdict"),
+    }
+}
+
+fn mark_of(verdict: Verdict) -> Mark {
+    match verdict {
+        Verdict::Ok => Mark::Passes,
+        Verdict::Unknown => Mark::Undecided,
+        Verdict::Violation(message) => Mark::Fails(reasons::number(&message)),
+    }
+}
+
+/// The whole mark: tidying, the early pass, the rules.
+pub fn mark(derived: &Particle, base: &Particle, schema: &CompiledSchema) -> Mark {
+    mark_of(super::mark(derived, base.clone(), schema))
+}
+
+/// The whole mark for the benchmark: no message is read or counted, and the
+/// base particle is handed over as the original takes it.
+pub fn judge(derived: &Particle, base: Particle, schema: &CompiledSchema) {
+    std::hint::black_box(super::mark(derived, base, schema));
+}
+
+pub fn normalize(p: &Particle) -> Particle {
+    super::normalize(p.clone())
+}
+
+pub fn emptiable(p: &Particle) -> bool {
+    super::emptiable(p)
+}
+
+pub fn effective_total_range(p: &Particle) -> (u32, Option<u32>) {
+    super::effective_total_range(p)
+}

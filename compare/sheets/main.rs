@@ -1,0 +1,148 @@
+//! Compares the proved library's marks of whole sheets with the oracle's, and
+//! its refusals with a second reading of document 01. Run it by compare/run.
+//! Exit status 0: all equal; 1: a difference; 2: bad usage; a panic says that
+//! the harness itself is at fault.
+
+mod check;
+mod report;
+mod tally;
+
+use cases::stated::{self, EXAMPLES, SETTLED};
+use cases::{known_sheets, limits, tiny_sheets};
+use common::answers::{self, REFUSED};
+use common::options::{self, Options};
+use common::random::Rng;
+use common::sheet::Sheet;
+use common::tree::MOST_RECORDS;
+use draw::damaged_sheets;
+use draw::sheets::{self, Size};
+
+use check::Difference;
+use tally::Tally;
+
+const RANDOM: u64 = 500_000;
+const DAMAGED: u64 = 300_000;
+/// So many random sheets are small, so that a difference shows on a small one
+/// if it can.
+const SMALL: u64 = 250_000;
+/// Below so many records, all are small: others would be drawn in vain.
+const FEW: u64 = 24;
+
+/// Where a difference turned up: the run and its case, and the sheet.
+struct Found {
+    case: String,
+    bytes: Vec<u8>,
+    difference: Difference,
+}
+
+fn main() {
+    let options = options::read("sheets", RANDOM, DAMAGED);
+    let mut tally = Tally::default();
+    // Short runs first, so that a difference shows on a small case if it can.
+    for run in [known, tiny, at_limits, random, damaged] {
+        if let Err(found) = run(&options, &mut tally) {
+            report::print(&found.case, &found.bytes, &found.difference);
+            std::process::exit(1);
+        }
+    }
+    complete(&options, &tally);
+    println!("{tally}");
+}
+
+/// At the default size or above it, every mark and refusal must have come up.
+fn complete(options: &Options, tally: &Tally) {
+    let marks = tally.random_answers.missing_marks();
+    let few = options.count < RANDOM || options.records < MOST_RECORDS as u64;
+    assert!(few || marks.is_empty(), "marks that never came up: {marks:?}");
+    let refusals = tally.damaged_answers.missing_refusals();
+    let few = options.damaged < DAMAGED;
+    assert!(few || refusals.is_empty(), "refusals that never came up: {refusals:?}");
+}
+
+fn found(case: String, bytes: Vec<u8>) -> impl FnOnce(Difference) -> Found {
+    move |difference| Found { case, bytes, difference }
+}
+
+/// Compares a sheet whose answer is stated by hand; the oracle and the second
+/// reading must say the same.
+fn stated_sheet(case: String, bytes: Vec<u8>, stated: &str) -> Result<(), Found> {
+    let expected = expected::sheet::mark(&bytes);
+    let read = answers::text(expected);
+    assert!(read == stated, "{case}: {read}, stated is {stated}");
+    check::compare(&bytes, expected).map_err(found(case, bytes))
+}
+
+fn known(_: &Options, tally: &mut Tally) -> Result<(), Found> {
+    for (what, bytes, stated) in known_sheets::known() {
+        tally.known += 1;
+        stated_sheet(format!("known sheet '{what}'"), bytes, stated)?;
+    }
+    for (derived, base, also, mark) in EXAMPLES.iter().chain(&SETTLED) {
+        tally.known += 1;
+        let bytes = stated::sheet(derived, base, also).encode();
+        stated_sheet(format!("example {derived} | {base}{also}"), bytes, mark)?;
+    }
+    Ok(())
+}
+
+fn at_limits(_: &Options, tally: &mut Tally) -> Result<(), Found> {
+    for (what, sheet, stated) in limits::stated() {
+        tally.limits += 1;
+        stated_sheet(format!("sheet at the limits '{what}'"), sheet.encode(), stated)?;
+    }
+    Ok(())
+}
+
+fn tiny(_: &Options, tally: &mut Tally) -> Result<(), Found> {
+    tiny_sheets::every(&mut |sheet| {
+        tally.tiny += 1;
+        let bytes = sheet.encode();
+        let expected = accepted(&bytes);
+        check::compare(&bytes, expected).map_err(found("all tiny sheets".into(), bytes))
+    })
+}
+
+/// The mark that is expected; the sheets that these runs make are good ones.
+fn accepted(bytes: &[u8]) -> u32 {
+    let expected = expected::sheet::mark(bytes);
+    assert!(expected < REFUSED, "a sheet of ours: {}", answers::text(expected));
+    expected
+}
+
+/// A sheet whose trees have no more records than asked for.
+fn random_sheet(options: &Options, rng: &mut Rng, case: u64) -> Sheet {
+    let size = if case < SMALL || options.records < FEW { Size::Small } else { Size::Any };
+    loop {
+        let sheet = sheets::sheet(rng, size);
+        let records = sheet.derived.records().max(sheet.base.records());
+        if records as u64 <= options.records {
+            return sheet;
+        }
+    }
+}
+
+fn random(options: &Options, tally: &mut Tally) -> Result<(), Found> {
+    for case in 0..options.count {
+        let mut rng = Rng::new(options.seed, case);
+        let bytes = random_sheet(options, &mut rng, case).encode();
+        let expected = accepted(&bytes);
+        tally.random += 1;
+        tally.random_answers.count(expected);
+        let case = format!("random sheet {case} of seed {}", options.seed);
+        check::compare(&bytes, expected).map_err(found(case, bytes))?;
+    }
+    Ok(())
+}
+
+fn damaged(options: &Options, tally: &mut Tally) -> Result<(), Found> {
+    for case in 0..options.damaged {
+        let mut rng = Rng::new(!options.seed, case);
+        let bytes = damaged_sheets::sheet(&mut rng);
+        let expected = expected::sheet::mark(&bytes);
+        tally.damaged += 1;
+        tally.damaged_answers.count(expected);
+        let case = format!("damaged sheet {case} of seed {}", options.seed);
+        check::compare(&bytes, expected).map_err(found(case, bytes))?;
+    }
+    Ok(())
+}

@@ -1,0 +1,110 @@
+//! A difference on a sheet, told in document 01's notation: the trees, what
+//! the sheet says of the leaves in them, and the bytes.
+
+use common::sheet::{Bodies, CONTENTS, LEAF_BYTES, Leaf, Sheet};
+use common::tree::{Kind, RECORD, Tree};
+use second::sheet::first_refusal;
+
+use crate::check::Difference;
+
+pub fn print(case: &str, bytes: &[u8], difference: &Difference) {
+    println!("difference: mark");
+    println!("  case:     {case}");
+    match first_refusal(bytes) {
+        None => {
+            let sheet = Sheet::decode(bytes);
+            println!("  sheet:    {} | {}", sheet.derived, sheet.base);
+            println!("  leaves:   {}", leaves(&sheet));
+            println!("  verdicts: {}", verdicts(&sheet));
+        }
+        Some(refusal) => {
+            println!("  sheet:    none, refused {} at {}", refusal.number, refusal.place);
+        }
+    }
+    println!("  hex:      {}", hex(bytes));
+    println!("  expected: {}", difference.expected);
+    println!("  got:      {}", difference.got);
+}
+
+/// The leaf numbers that a tree has, each once, rising.
+fn numbers(tree: &Tree) -> Vec<u8> {
+    fn collect(tree: &Tree, found: &mut Vec<u8>) {
+        if tree.kind.is_leaf() {
+            found.push(tree.leaf);
+        }
+        tree.items.iter().for_each(|item| collect(item, found));
+    }
+    let mut found = Vec::new();
+    collect(tree, &mut found);
+    found.sort();
+    found.dedup();
+    found
+}
+
+/// A leaf as the notation has it.
+fn letter(sheet: &Sheet, number: u8) -> String {
+    Tree::leaf(sheet.leaves[usize::from(number)].kind, number, (1, Some(1))).to_string()
+}
+
+fn leaves(sheet: &Sheet) -> String {
+    let told = |number: u8| {
+        let letter = letter(sheet, number);
+        match sheet.leaves[usize::from(number)] {
+            Leaf { kind: Kind::Element, name, .. } => format!("{letter} name {name}"),
+            Leaf { processing, .. } => {
+                let word = ["skip", "lax", "strict"][usize::from(processing)];
+                format!("{letter} {word}")
+            }
+        }
+    };
+    let mut used = numbers(&sheet.derived);
+    used.extend(numbers(&sheet.base));
+    used.sort();
+    used.dedup();
+    let told: Vec<String> = used.into_iter().map(told).collect();
+    told.join(", ")
+}
+
+/// The verdicts that apply to a derived and a base leaf of the trees: both
+/// tables' for two elements, the second's for a base wildcard.
+fn verdicts(sheet: &Sheet) -> String {
+    let mut told = Vec::new();
+    for derived in numbers(&sheet.derived) {
+        for base in numbers(&sheet.base) {
+            let at = sheet.at(derived, base);
+            let kinds = [derived, base].map(|number| sheet.leaves[usize::from(number)].kind);
+            let verdicts = match kinds {
+                [Kind::Wildcard, Kind::Element] => continue,
+                [Kind::Element, Kind::Element] => {
+                    format!("first {} second {}", sheet.first[at], sheet.second[at])
+                }
+                _ => format!("second {}", sheet.second[at]),
+            };
+            told.push(format!("{}|{} {verdicts}", letter(sheet, derived), letter(sheet, base)));
+        }
+    }
+    told.join(", ")
+}
+
+/// Contents, leaves, rows of the tables and records, each by itself; where the
+/// contents are refused, all bytes in one row.
+fn hex(bytes: &[u8]) -> String {
+    let digits = |part: &[u8]| part.iter().map(|byte| format!("{byte:02x}")).collect::<String>();
+    if first_refusal(bytes).is_some_and(|refusal| refusal.number == 1) {
+        return digits(bytes);
+    }
+    let bodies = Bodies::split(bytes);
+    let n = bodies.leaves.len() / LEAF_BYTES;
+    let parts = [
+        (&bodies.leaves, LEAF_BYTES),
+        (&bodies.first, n),
+        (&bodies.second, n),
+        (&bodies.derived, RECORD),
+        (&bodies.base, RECORD),
+    ];
+    let mut told = vec![digits(&bytes[..CONTENTS])];
+    for (body, length) in parts {
+        told.extend(body.chunks(length).map(digits));
+    }
+    told.join(" ")
+}

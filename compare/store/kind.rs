@@ -1,0 +1,81 @@
+//! The words that tell stored answers of one kind from those of another.
+
+use common::answers::{self, BEYOND, REFUSED};
+use common::sheet::Sheet;
+use common::tree::{Kind, Tree};
+use oracle::bridge::{self, Leaves};
+use oracle::doors;
+use oracle::reasons::Mark;
+use second::tree::first_refusal;
+
+use crate::case::{Case, Operation};
+
+/// The kind of an answer.
+pub fn of(case: &Case) -> String {
+    match case.operation {
+        Operation::Mark => answers::text(case.answer as u32),
+        Operation::TotalMin | Operation::TotalMax => total(case),
+        Operation::Emptiable => match case.answer {
+            0 => "no".into(),
+            1 => "yes".into(),
+            number => format!("refused {number}"),
+        },
+        Operation::Tidy => match case.answer.checked_sub(BEYOND) {
+            Some(number) => format!("refused {number}"),
+            None if case.after.starts_with(&case.input) => "unchanged".into(),
+            None => "changed".into(),
+        },
+        Operation::Item => item(case).into(),
+    }
+}
+
+fn total(case: &Case) -> String {
+    const MOST: u64 = BEYOND - 1;
+    match case.answer {
+        0 => "0".into(),
+        MOST => MOST.to_string(),
+        BEYOND => "unbounded".into(),
+        answer if answer > BEYOND => format!("refused {}", answer - BEYOND),
+        _ => "between".into(),
+    }
+}
+
+fn item(case: &Case) -> &'static str {
+    if first_refusal(&case.input).is_some() {
+        "none, refused"
+    } else if case.answer == 0 {
+        "none"
+    } else if case.before.len() < case.answer as usize {
+        "too long"
+    } else {
+        "written"
+    }
+}
+
+/// For a sheet with a mark, also its roots, since they decide by which rule the
+/// mark is found, and of an undecided one whether it would fail if every
+/// undecided verdict were ok. The reasons that the paper sets are one kind.
+pub fn finely(case: &Case) -> String {
+    if case.operation != Operation::Mark || case.answer > REFUSED.into() {
+        return of(case);
+    }
+    let kind = if case.answer < 140 { of(case) } else { "fails by a verdict".into() };
+    let mut sheet = Sheet::decode(&case.input);
+    let roots = format!("{}|{}", root(&sheet.derived), root(&sheet.base));
+    for verdict in sheet.first.iter_mut().chain(&mut sheet.second) {
+        *verdict = if *verdict == 1 { 0 } else { *verdict };
+    }
+    let over_a_failure = case.answer == 1 && matches!(bridge::mark(&sheet), Mark::Fails(_));
+    format!("{kind}{} {roots}", if over_a_failure { " over a failure" } else { "" })
+}
+
+/// The root once tidied, in document 01's notation, a for any element.
+fn root(tree: &Tree) -> char {
+    match bridge::tree(&doors::normalize(&Leaves::none().particle(tree))).kind {
+        Kind::Element => 'a',
+        Kind::Wildcard => 'w',
+        Kind::Sequence => 'S',
+        Kind::Choice => 'C',
+        Kind::All => 'A',
+    }
+}

@@ -1,0 +1,114 @@
+//! The sheets among the stored answers: known ones, some at the limits, random
+//! and damaged ones of every answer. Marks are the oracle's; the Rust has no
+//! refusals, so these are the second reading's (second/sheet.rs).
+
+use cases::stated::{self, EXAMPLES, SETTLED};
+use cases::{known_sheets, limits};
+use common::answers::{self, REFUSALS, REFUSED};
+use common::random::Rng;
+use common::sheet::Sheet;
+use common::tree::{Kind, Tree};
+use draw::damaged_sheets;
+use draw::sheets::{self, Size};
+
+use crate::case::{Case, Operation};
+use crate::shares::{Round, Shares, Stored};
+
+/// Most stored sheets are not longer than this, so that there can be many.
+const SHORT: usize = 132;
+/// Those that are refused for their depth, 13, are longer: a tree of so many
+/// records has 156 bytes.
+const DEEP: usize = 230;
+const DEPTH: [u32; 2] = [8, 13];
+/// A few are of any size up to this.
+const LONG: usize = 900;
+/// Of the sheets at the limits, those that are longer than this are left out
+/// unless `LARGE` names them.
+const WIDE: usize = 3600;
+const LARGE: [&str; 2] = ["254 elements in the other order", "the largest sheet, the last verdict"];
+
+/// How many draws are spread over the fine kinds, and how many of each these
+/// give at most.
+const DRAWS: u64 = 200_000;
+const FINELY: usize = 9;
+const LONG_FINELY: usize = 1;
+/// How many of each mark and of each refusal there are at least.
+const MARKED: usize = 60;
+const REFUSED_EACH: usize = 60;
+
+pub fn store(stored: &mut Stored, seed: u64) {
+    fixed(stored);
+    let short = |rng: &mut Rng| up_to(SHORT, sheets::sheet(rng, Size::Small).encode());
+    let long = |rng: &mut Rng| up_to(LONG, sheets::sheet(rng, Size::Any).encode());
+    let open = |rng: &mut Rng| up_to(SHORT, open(rng).encode());
+    stored.spread(seed, Round::ShortSheets, DRAWS, FINELY, short);
+    stored.spread(seed, Round::OpenSheets, DRAWS, FINELY, open);
+    stored.spread(seed, Round::LongSheets, DRAWS, LONG_FINELY, long);
+    let marks = answers::marks().map(answers::text);
+    Shares::default().ask(Operation::Mark, marks, MARKED).fill(
+        stored,
+        seed,
+        Round::MoreSheets,
+        short,
+    );
+    damaged(stored, seed);
+}
+
+fn damaged(stored: &mut Stored, seed: u64) {
+    let (deep, others): (Vec<u32>, Vec<u32>) =
+        REFUSALS.into_iter().partition(|n| DEPTH.contains(n));
+    for (round, numbers, most) in
+        [(Round::DamagedSheets, others, SHORT), (Round::DeepSheets, deep, DEEP)]
+    {
+        let kinds = numbers.into_iter().map(|number| answers::text(REFUSED + number));
+        Shares::default().ask(Operation::Mark, kinds, REFUSED_EACH).fill(
+            stored,
+            seed,
+            round,
+            |rng| up_to(most, damaged_sheets::sheet(rng)),
+        );
+    }
+}
+
+/// A sheet with more undecided verdicts; now and then the base is a wildcard.
+fn open(rng: &mut Rng) -> Sheet {
+    let mut sheet = sheets::sheet(rng, Size::Small);
+    for verdict in sheet.first.iter_mut().chain(&mut sheet.second) {
+        if rng.one_in(4) {
+            *verdict = 1;
+        }
+    }
+    let wildcard = sheet.leaves.iter().position(|leaf| leaf.kind == Kind::Wildcard);
+    match wildcard {
+        Some(leaf) if rng.one_in(3) => {
+            sheet.base = Tree::leaf(Kind::Wildcard, leaf as u8, (0, None));
+        }
+        _ => {}
+    }
+    sheet
+}
+
+/// The known sheets, document 01's examples, and some at the limits.
+fn fixed(stored: &mut Stored) {
+    for (_, bytes, _) in known_sheets::known() {
+        stored.add(marked(&bytes));
+    }
+    for (derived, base, also, _) in EXAMPLES.iter().chain(&SETTLED) {
+        stored.add(marked(&stated::sheet(derived, base, also).encode()));
+    }
+    for (what, sheet, _) in limits::stated() {
+        let bytes = sheet.encode();
+        if bytes.len() <= WIDE || LARGE.contains(&what) {
+            stored.add(marked(&bytes));
+        }
+    }
+}
+
+/// The sheet with its answer, unless it is too long.
+fn up_to(most: usize, bytes: Vec<u8>) -> Vec<Case> {
+    if bytes.len() > most { Vec::new() } else { vec![marked(&bytes)] }
+}
+
+fn marked(bytes: &[u8]) -> Case {
+    Case::number(Operation::Mark, bytes, expected::sheet::mark(bytes).into())
+}

@@ -1,0 +1,181 @@
+//! One byte string through every entry of the library, and the first answer
+//! that is not the expected one (expected/tree.rs).
+
+use common::answers::BEYOND;
+use common::random::Rng;
+use expected::tree::Answers;
+
+use crate::tally::Tally;
+
+pub struct Difference {
+    pub what: String,
+    pub expected: String,
+    pub got: String,
+}
+
+/// Compares every answer on `bytes`.
+pub fn answers(bytes: &[u8], rng: &mut Rng, tally: &mut Tally) -> Result<(), Difference> {
+    let expected = expected::tree::answers(bytes);
+    tally.string(bytes, &expected);
+    let lent = bytes.to_vec();
+    let (min, max) = (library::total_min(&lent), library::total_max(&lent));
+    same("total minimum", expected.total_min, min, total_text)?;
+    same("total maximum", expected.total_max, max, total_text)?;
+    let emptiable = library::emptiable(&lent);
+    same("emptiable", expected.emptiable, emptiable, emptiable_text)?;
+    tally.totals += 1;
+    tally.emptiable += 1;
+    items(&lent, &expected, rng, tally)?;
+    let room = bytes.len() + rng.within(1, 40);
+    for room in [room, bytes.len(), bytes.len().saturating_sub(1), rng.below(bytes.len() + 1)] {
+        compare_tidied(&lent, &expected, room, rng)?;
+        tally.tidied += 1;
+    }
+    if lent != bytes {
+        return Err(Difference {
+            what: "the tree handed in".into(),
+            expected: "unchanged".into(),
+            got: "changed by one of the calls".into(),
+        });
+    }
+    Ok(())
+}
+
+/// Compares every item of the root, and places that no item has.
+fn items(
+    tree: &[u8],
+    expected: &Answers,
+    rng: &mut Rng,
+    tally: &mut Tally,
+) -> Result<(), Difference> {
+    let count = expected.items.len();
+    for (k, item) in expected.items.iter().enumerate() {
+        let length = item.len();
+        for room in [length + rng.within(1, 40), length, length - 1, rng.below(length)] {
+            compare_item(tree, k, expected, room, rng)?;
+        }
+        tally.items += 1;
+        tally.buffers += 4;
+    }
+    for k in [count, count + 1, usize::MAX] {
+        for room in [tree.len() + 5, 0] {
+            compare_item(tree, k, expected, room, rng)?;
+        }
+        tally.no_items += 1;
+        tally.buffers += 2;
+    }
+    Ok(())
+}
+
+fn same<T: PartialEq + Copy>(
+    what: &str,
+    expected: T,
+    got: T,
+    text: impl Fn(T) -> String,
+) -> Result<(), Difference> {
+    if expected == got {
+        return Ok(());
+    }
+    Err(Difference { what: what.into(), expected: text(expected), got: text(got) })
+}
+
+fn total_text(answer: u64) -> String {
+    match answer.checked_sub(BEYOND) {
+        None => answer.to_string(),
+        Some(0) => format!("{answer} (unbounded)"),
+        Some(number) => format!("{answer} (refused {number})"),
+    }
+}
+
+fn emptiable_text(answer: u32) -> String {
+    match answer {
+        0 => "0 (no)".into(),
+        1 => "1 (yes)".into(),
+        _ => format!("{answer} (refused)"),
+    }
+}
+
+/// Bytes on either side of a lent buffer, to see writes outside it.
+const GUARD: usize = 16;
+
+/// A buffer of `room` bytes between guards, filled with bytes that differ from
+/// place to place.
+fn lent_buffer(room: usize, rng: &mut Rng) -> Vec<u8> {
+    let fill = rng.byte();
+    (0..GUARD + room + GUARD).map(|at| fill.wrapping_add((at as u8).wrapping_mul(37))).collect()
+}
+
+/// The first byte that differs, and where it stands: in the first `written`
+/// bytes of the buffer, after them, or outside it.
+fn same_bytes(
+    what: &str,
+    expected: &[u8],
+    got: &[u8],
+    room: usize,
+    written: usize,
+) -> Result<(), Difference> {
+    let Some(at) = (0..got.len()).find(|at| got[*at] != expected[*at]) else {
+        return Ok(());
+    };
+    let place = at as isize - GUARD as isize;
+    let part = if at < GUARD || at >= GUARD + room {
+        "outside the buffer"
+    } else if at < GUARD + written {
+        "in what is written"
+    } else {
+        "in a part that keeps its value"
+    };
+    Err(Difference {
+        what: format!("{what}: byte {place}, {part}"),
+        expected: format!("{:02x}", expected[at]),
+        got: format!("{:02x}", got[at]),
+    })
+}
+
+/// Asks for the k-th item with a buffer of `room` bytes and compares the
+/// length, every byte of the buffer, and the bytes around it.
+fn compare_item(
+    tree: &[u8],
+    k: usize,
+    answers: &Answers,
+    room: usize,
+    rng: &mut Rng,
+) -> Result<(), Difference> {
+    let mut got = lent_buffer(room, rng);
+    let mut expected = got.clone();
+    let (length, written) = answers.item_into(k, room);
+    expected[GUARD..GUARD + written.len()].copy_from_slice(written);
+    let answered = library::item(tree, k, &mut got[GUARD..GUARD + room]);
+    if answered == length && got == expected {
+        return Ok(());
+    }
+    let what = format!("item {k} into a buffer of {room} bytes");
+    same(&format!("{what}: its length"), length, answered, |length| format!("{length} bytes"))?;
+    same_bytes(&what, &expected, &got, room, written.len())
+}
+
+/// Tidies into a buffer of `room` bytes and compares the count or refusal,
+/// every byte of the buffer, and the bytes around it.
+fn compare_tidied(
+    tree: &[u8],
+    answers: &Answers,
+    room: usize,
+    rng: &mut Rng,
+) -> Result<(), Difference> {
+    let mut got = lent_buffer(room, rng);
+    let mut expected = got.clone();
+    let (answer, written) = answers.tidied_into(tree.len(), room);
+    expected[GUARD..GUARD + written.len()].copy_from_slice(written);
+    let answered = library::tidy(tree, &mut got[GUARD..GUARD + room]);
+    if answered == answer && got == expected {
+        return Ok(());
+    }
+    let what = format!("tidied into a buffer of {room} bytes");
+    same(&format!("{what}: the answer"), answer, answered, |answer| {
+        match answer.checked_sub(BEYOND) {
+            None => format!("{answer} records"),
+            Some(number) => format!("refused {number}"),
+        }
+    })?;
+    same_bytes(&what, &expected, &got, room, written.len())
+}

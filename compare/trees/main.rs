@@ -1,0 +1,130 @@
+//! Compares the proved library's answers on single trees with the expected ones:
+//! total range, emptiable, the tidied tree, the root's items, and refusals. Run
+//! it by compare/run. Exit status 0: all equal; 1: a difference; 2: bad usage; a
+//! panic says that the harness itself is at fault.
+
+mod check;
+mod tally;
+
+use cases::{known_trees, small_trees};
+use common::options::{self, Options};
+use common::random::Rng;
+use common::tree::{RECORD, Tree};
+use draw::{damaged_trees, trees};
+use second::tree::first_refusal;
+
+use check::Difference;
+use tally::Tally;
+
+/// Where a difference turned up: the run and its case, and the byte string.
+struct Found {
+    case: String,
+    bytes: Vec<u8>,
+    difference: Difference,
+}
+
+fn main() {
+    let options = options::read("trees", 200_000, 150_000);
+    let mut tally = Tally::default();
+    // Short runs first, so that a difference shows on a small case if it can.
+    for run in [known, small, random, damaged] {
+        if let Err(found) = run(&options, &mut tally) {
+            report(&found);
+            std::process::exit(1);
+        }
+    }
+    println!("{tally}");
+}
+
+fn found(case: String, bytes: &[u8]) -> impl FnOnce(Difference) -> Found {
+    move |difference| Found { case, bytes: bytes.to_vec(), difference }
+}
+
+/// The trees that these runs make are good ones.
+fn accepted(bytes: &[u8]) {
+    let refusal = first_refusal(bytes);
+    assert!(refusal.is_none(), "a tree of ours is refused: {refusal:?}");
+}
+
+fn known(options: &Options, tally: &mut Tally) -> Result<(), Found> {
+    let mut rng = Rng::new(options.seed, 1);
+    for (what, bytes, stated) in known_trees::known() {
+        let read = first_refusal(&bytes).map_or(0, |refusal| refusal.number);
+        assert!(read == stated, "{what}: the second reading says {read}, stated is {stated}");
+        tally.known += 1;
+        check::answers(&bytes, &mut rng, tally)
+            .map_err(found(format!("known string '{what}'"), &bytes))?;
+    }
+    Ok(())
+}
+
+fn small(options: &Options, tally: &mut Tally) -> Result<(), Found> {
+    let mut rng = Rng::new(options.seed, 0);
+    for (records, pairs) in [
+        (1, &small_trees::PAIRS[..]),
+        (2, &small_trees::PAIRS[..]),
+        (3, &small_trees::PAIRS[..]),
+        (4, &small_trees::FEW_PAIRS[..]),
+    ] {
+        small_trees::every(records, pairs, &mut |bytes| {
+            tally.small += 1;
+            accepted(bytes);
+            check::answers(bytes, &mut rng, tally).map_err(found("all small trees".into(), bytes))
+        })?;
+    }
+    Ok(())
+}
+
+/// A tree that has no more records than asked for.
+fn random_tree(options: &Options, rng: &mut Rng) -> Tree {
+    loop {
+        let tree = trees::tree(rng);
+        if tree.records() as u64 <= options.records {
+            return tree;
+        }
+    }
+}
+
+fn random(options: &Options, tally: &mut Tally) -> Result<(), Found> {
+    for case in 0..options.count {
+        let mut rng = Rng::new(options.seed, case);
+        let tree = random_tree(options, &mut rng);
+        let bytes = tree.encode();
+        tally.random += 1;
+        accepted(&bytes);
+        assert!(Tree::decode(&bytes) == tree, "read as another tree: {tree}");
+        check::answers(&bytes, &mut rng, tally)
+            .map_err(found(format!("random tree {case} of seed {}", options.seed), &bytes))?;
+    }
+    Ok(())
+}
+
+fn damaged(options: &Options, tally: &mut Tally) -> Result<(), Found> {
+    for case in 0..options.damaged {
+        let mut rng = Rng::new(!options.seed, case);
+        let bytes = damaged_trees::string(&mut rng);
+        tally.damaged += 1;
+        check::answers(&bytes, &mut rng, tally)
+            .map_err(found(format!("damaged string {case} of seed {}", options.seed), &bytes))?;
+    }
+    Ok(())
+}
+
+fn report(found: &Found) {
+    let tree = match first_refusal(&found.bytes) {
+        None => Tree::decode(&found.bytes).to_string(),
+        Some(refusal) => {
+            format!("none, refused {} at record {} (from 0)", refusal.number, refusal.record)
+        }
+    };
+    let records = found.bytes.chunks(RECORD).map(|record| {
+        let bytes = record.iter().map(|byte| format!("{byte:02x}"));
+        bytes.collect::<String>()
+    });
+    println!("difference: {}", found.difference.what);
+    println!("  case:     {}", found.case);
+    println!("  tree:     {tree}");
+    println!("  hex:      {}", records.collect::<Vec<_>>().join(" "));
+    println!("  expected: {}", found.difference.expected);
+    println!("  got:      {}", found.difference.got);
+}

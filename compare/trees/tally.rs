@@ -1,0 +1,85 @@
+//! What was compared, counted, and the closing line that tells it.
+
+use std::fmt;
+
+use common::answers::BEYOND;
+use common::tree::{COUNT, KIND, RECORD};
+use expected::tree::Answers;
+
+#[derive(Default)]
+pub struct Tally {
+    pub small: u64,
+    pub random: u64,
+    pub known: u64,
+    pub damaged: u64,
+    /// Strings refused with 10, 11, 12, 13, 14.
+    refused: [u64; 5],
+    accepted: u64,
+    /// Records of accepted trees by kind, and empty groups among them.
+    records: [u64; 5],
+    empty_groups: u64,
+    /// Totals: minimum 0, minimum 4294967295, maximum 0, maximum unbounded.
+    edges: [u64; 4],
+    pub totals: u64,
+    pub emptiable: u64,
+    pub items: u64,
+    /// Places that no item has.
+    pub no_items: u64,
+    pub buffers: u64,
+    /// Buffers that a tree was tidied into.
+    pub tidied: u64,
+}
+
+impl Tally {
+    /// Counts a byte string by what is expected of it.
+    pub fn string(&mut self, bytes: &[u8], expected: &Answers) {
+        match expected.tidied {
+            Err(number) => self.refused[number as usize - 10] += 1,
+            Ok(_) => self.accept(bytes, expected.total_min, expected.total_max),
+        }
+    }
+
+    fn accept(&mut self, bytes: &[u8], min: u64, max: u64) {
+        self.accepted += 1;
+        for record in bytes.chunks_exact(RECORD) {
+            let kind = usize::from(record[KIND]);
+            self.records[kind] += 1;
+            self.empty_groups += u64::from(kind > 1 && record[COUNT] == 0);
+        }
+        let edges = [min == 0, min == BEYOND - 1, max == 0, max == BEYOND];
+        for (count, edge) in self.edges.iter_mut().zip(edges) {
+            *count += u64::from(edge);
+        }
+    }
+}
+
+impl fmt::Display for Tally {
+    fn fmt(&self, f: &mut fmt::Formatter<'_>) -> fmt::Result {
+        let [e, w, s, c, a] = self.records;
+        let [r10, r11, r12, r13, r14] = self.refused;
+        let [min0, min_top, max0, unbounded] = self.edges;
+        write!(
+            f,
+            "all equal: {} small trees, {} random trees, {} known strings, {} damaged strings; \
+             {} accepted (records: {e} elements, {w} wildcards, {s} sequences, {c} choices, \
+             {a} all-groups, {} of these groups empty), \
+             refused 10: {r10}, 11: {r11}, 12: {r12}, 13: {r13}, 14: {r14}; \
+             {} total ranges (minimum 0: {min0}, 4294967295: {min_top}; \
+             maximum 0: {max0}, unbounded: {unbounded}), {} emptiable, \
+             {} items and {} places without item in {} buffers, \
+             tidied into {} buffers",
+            self.small,
+            self.random,
+            self.known,
+            self.damaged,
+            self.accepted,
+            self.empty_groups,
+            self.totals,
+            self.emptiable,
+            self.items,
+            self.no_items,
+            self.buffers,
+            self.tidied,
+        )
+    }
+}
