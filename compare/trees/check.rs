@@ -25,22 +25,7 @@ pub fn answers(bytes: &[u8], rng: &mut Rng, tally: &mut Tally) -> Result<(), Dif
     same("emptiable", expected.emptiable, emptiable, emptiable_text)?;
     tally.totals += 1;
     tally.emptiable += 1;
-    let count = expected.items.len();
-    for (k, item) in expected.items.iter().enumerate() {
-        let length = item.len();
-        for room in [length + rng.within(1, 40), length, length - 1, rng.below(length)] {
-            compare_item(&lent, k, &expected, room, rng)?;
-        }
-        tally.items += 1;
-        tally.buffers += 4;
-    }
-    for k in [count, count + 1, usize::MAX] {
-        for room in [bytes.len() + 5, 0] {
-            compare_item(&lent, k, &expected, room, rng)?;
-        }
-        tally.no_items += 1;
-        tally.buffers += 2;
-    }
+    items(&lent, &expected, rng, tally)?;
     let room = bytes.len() + rng.within(1, 40);
     for room in [room, bytes.len(), bytes.len().saturating_sub(1), rng.below(bytes.len() + 1)] {
         compare_tidied(&lent, &expected, room, rng)?;
@@ -52,6 +37,32 @@ pub fn answers(bytes: &[u8], rng: &mut Rng, tally: &mut Tally) -> Result<(), Dif
             expected: "unchanged".into(),
             got: "changed by one of the calls".into(),
         });
+    }
+    Ok(())
+}
+
+/// Compares every item of the root, and places that no item has.
+fn items(
+    tree: &[u8],
+    expected: &Answers,
+    rng: &mut Rng,
+    tally: &mut Tally,
+) -> Result<(), Difference> {
+    let count = expected.items.len();
+    for (k, item) in expected.items.iter().enumerate() {
+        let length = item.len();
+        for room in [length + rng.within(1, 40), length, length - 1, rng.below(length)] {
+            compare_item(tree, k, expected, room, rng)?;
+        }
+        tally.items += 1;
+        tally.buffers += 4;
+    }
+    for k in [count, count + 1, usize::MAX] {
+        for room in [tree.len() + 5, 0] {
+            compare_item(tree, k, expected, room, rng)?;
+        }
+        tally.no_items += 1;
+        tally.buffers += 2;
     }
     Ok(())
 }

@@ -1,6 +1,6 @@
-//! Compares the proved library's answers on single trees with the oracle's:
-//! total range, emptiable, the root's items, and refusals. Run it by
-//! compare/run. Exit status 0: all equal; 1: a difference; 2: bad usage; a
+//! Compares the proved library's answers on single trees with the expected ones:
+//! total range, emptiable, the tidied tree, the root's items, and refusals. Run
+//! it by compare/run. Exit status 0: all equal; 1: a difference; 2: bad usage; a
 //! panic says that the harness itself is at fault.
 
 mod check;
