@@ -59,11 +59,12 @@ def layouts():
     return fields
 
 
-def numbers(given=()):
-    """Every number by its name. `given` goes before those of crates and page."""
+def numbers(given=(), crates=True):
+    """Every number by its name: those given, else the crates' unless they are left out, else the
+    page's."""
     known, given = {}, dict(given)
     for name, _, row in rows():
-        found = [n for _, places in in_crates(row) for _, n in places]
+        found = [n for _, places in in_crates(row) for _, n in places if crates]
         formula = first(row.get("how it follows", ""))
         usual = value(formula, known) if formula else (found + [row["number"]])[0]
         known[name] = given.get(name, usual)

@@ -38,9 +38,9 @@ def tables(text):
             yield heading, heads, cells
 
 
-def report(command, wrong, what):
+def report(command, wrong, what, shown=SHOWN):
     """Prints the first faults and the closing line; the exit status."""
-    for line in wrong[:SHOWN]:
+    for line in wrong[:shown]:
         print("%s: %s" % (command, line))
     print("%s: %s, %d wrong" % (command, what, len(wrong)))
     return 1 if wrong else 0
