@@ -35,7 +35,7 @@
  * call themselves, as deep as a tree has records, and a stack that is too small
  * ends the process. The tests, the longest sheet among them, run on a stack of
  * 128 KiB. No contract bounds the time either; the longest marking that we know
- * takes some 20 milliseconds (docs/BENCHMARK.md, 'longest known').
+ * takes some 20 milliseconds (docs/BENCHMARK.md, 'worst, own pairs').
  */
 #ifndef MARKER_H
 #define MARKER_H

@@ -23,11 +23,11 @@ enum Choice {
     /// The longest marking of cases/limits.rs.
     Longest,
     /// One of worst.rs, by its members, the chain's kind, the elements
-    /// at its end and the verdict on them.
-    Chain(usize, Kind, usize, u8),
+    /// at its end and the two tables' verdicts on them.
+    Chain(usize, Kind, usize, (u8, u8)),
 }
 
-pub const EVERY: [Group; 11] = [
+pub const EVERY: [Group; 12] = [
     drawn("small", 2000, Size::Small, 1..=7, 1..=8),
     drawn("middle", 500, Size::Any, 1..=24, 20..=60),
     drawn("largest", 200, Size::Any, 25..=64, 128..=255),
@@ -35,10 +35,11 @@ pub const EVERY: [Group; 11] = [
     drawn("many leaves", 1000, Size::Any, 25..=64, 1..=8),
     drawn("any", 2000, Size::Any, 1..=64, 1..=255),
     Group { name: "worst", choice: Choice::Longest },
-    Group { name: "worst, undecided", choice: Choice::Chain(254, Kind::Choice, 1, 1) },
-    Group { name: "worst, sequences", choice: Choice::Chain(254, Kind::Sequence, 1, 1) },
-    Group { name: "worst, wide", choice: Choice::Chain(20, Kind::Choice, 240, 1) },
-    Group { name: "worst, failing", choice: Choice::Chain(2, Kind::Choice, 240, 140) },
+    Group { name: "worst, undecided", choice: Choice::Chain(254, Kind::Choice, 1, (1, 1)) },
+    Group { name: "worst, sequences", choice: Choice::Chain(254, Kind::Sequence, 1, (1, 1)) },
+    Group { name: "worst, wide", choice: Choice::Chain(20, Kind::Choice, 240, (1, 1)) },
+    Group { name: "worst, failing", choice: Choice::Chain(2, Kind::Choice, 240, (140, 140)) },
+    Group { name: "worst, own pairs", choice: Choice::Chain(254, Kind::Choice, 240, (0, 1)) },
 ];
 
 const fn drawn(
@@ -55,8 +56,8 @@ impl Group {
     pub fn sheets(&self, seed: u64) -> Vec<Sheet> {
         match &self.choice {
             Choice::Longest => vec![longest()],
-            Choice::Chain(members, kind, bottom, verdict) => {
-                vec![worst::chain(*members, *kind, *bottom, *verdict)]
+            Choice::Chain(members, kind, bottom, verdicts) => {
+                vec![worst::chain(*members, *kind, *bottom, *verdicts)]
             }
             Choice::Drawn(count, size, leaves, records) => {
                 let fits = |sheet: &Sheet| {

@@ -9,16 +9,16 @@ const ONCE: Pair = (1, Some(1));
 const TWICE: Pair = (0, Some(2));
 
 /// So many members, a chain of groups of this kind whose last has so many
-/// elements, and the verdict on a member against each of them.
-pub fn chain(members: usize, kind: Kind, bottom: usize, verdict: u8) -> Sheet {
+/// elements, and the two tables' verdicts on a member against each of them.
+pub fn chain(members: usize, kind: Kind, bottom: usize, verdicts: (u8, u8)) -> Sheet {
     let element = |leaf| Tree::leaf(Kind::Element, leaf, ONCE);
     let last = Tree::group(kind, TWICE, vec![element(1); bottom]);
     let chain = (3..MOST_DEPTH).fold(last, |inner, _| Tree::group(kind, TWICE, vec![inner]));
-    let table = vec![0, verdict, verdict, 0];
+    let table = |verdict| vec![0, verdict, verdict, 0];
     Sheet {
         leaves: vec![Leaf::element(0), Leaf::element(1)],
-        first: table.clone(),
-        second: table,
+        first: table(verdicts.0),
+        second: table(verdicts.1),
         derived: Tree::group(Kind::Sequence, ONCE, vec![element(0); members]),
         base: Tree::group(Kind::Choice, (0, None), vec![chain]),
     }

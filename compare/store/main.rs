@@ -31,6 +31,8 @@ fn main() {
     write(ANSWERS, &bytes);
     write(PRINTED, format!("{count} agreed, 0 differ\n").as_bytes());
     report(&stored);
+    let (sheets, calls, trees) = stored.inputs();
+    println!("{sheets} sheets to mark, {calls} calls of the other entries over {trees} trees");
     println!("wrote {count} answers, {} bytes, to {ANSWERS}", bytes.len());
 }
 

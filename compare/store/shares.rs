@@ -56,6 +56,15 @@ impl Stored {
         counts
     }
 
+    /// How many sheets are marked, how many cases ask another entry, and over
+    /// how many trees these are.
+    pub fn inputs(&self) -> (usize, usize, usize) {
+        let (sheets, others): (Vec<&Case>, Vec<&Case>) =
+            self.cases.iter().partition(|case| case.operation == Operation::Mark);
+        let trees: HashSet<&[u8]> = others.iter().map(|case| &case.input[..]).collect();
+        (sheets.len(), others.len(), trees.len())
+    }
+
     /// Draws so many times, and stores at most so many cases of each fine kind.
     pub fn spread(
         &mut self,
