@@ -1,7 +1,8 @@
 -- The leaves and the verdict tables of a sheet, as bytes. Assumes nothing: these are definitions.
+use mathlib.Core.Bool.{cond, _&&_}
 use mathlib.Core.List.{List}
 use Prim.Native.Nat.{ℕ, zero, suc, _+_, _*_, _/_}
-use lib.Dec.{eqb}
+use lib.Dec.{eqb, leb}
 use lib.ListN.{length, getD}
 use Rattle.rules.specs.Verdicts.{Mark, passes, undecided, fails, Leaves, Tables}
 
@@ -17,11 +18,15 @@ leavesOf s = record {
   localName = λ l. getD s (leafSize * l + 2) 0 + getD s (leafSize * l + 3) 0 * 256;
 }
 
--- a verdict: 0 ok, 1 undecided, else a reason that the paper sets
+-- '140..=152 a reason that the paper sets': such a number is itself; any other is none, and gives 0, which is no reason's number
+abbrev pub paperReason : ℕ → ℕ
+paperReason n = cond (leb 140 n && leb n 152) n 0
+
+-- a verdict: 0 ok, 1 undecided, else a reason that the paper sets (in a sheet that is accepted no other number stands)
 abbrev pub verdictOf : ℕ → Mark
 verdictOf zero = passes
 verdictOf (suc zero) = undecided
-verdictOf (suc (suc v)) = fails (suc (suc v))
+verdictOf (suc (suc v)) = fails (paperReason (suc (suc v)))
 
 -- the two tables of n leaves, one after the other, each by rows; what is not there is undecided
 abbrev pub tablesOf : ℕ → List ℕ → Tables
