@@ -8,6 +8,9 @@ ghost use Rattle.verdicts.specs.Paper.{leafSize};
 ghost use Rattle.sheet.specs.Layout.{leafAt, leavesIn};
 ghost use Rattle.sheet.specs.Refused.{leafOk, leavesOk, verdictsOk, kindsOf};
 use verdicts::LEAF_SIZE;
+use verdicts::NAME_HIGH_AT;
+use verdicts::NAME_LOW_AT;
+use verdicts::PROCESS_AT;
 
 const LAST_VERDICT: u8 = 152;
 
@@ -29,8 +32,8 @@ fn leaf_at(leaves: &[u8], i: usize) -> Leaf
     let at = LEAF_SIZE * i;
     Leaf {
         kind: leaves[at],
-        process: leaves[at + 1],
-        name: (leaves[at + 2] as u16) + (leaves[at + 3] as u16) * 256,
+        process: leaves[at + PROCESS_AT],
+        name: (leaves[at + NAME_LOW_AT] as u16) + (leaves[at + NAME_HIGH_AT] as u16) * 256,
     }
 }
 

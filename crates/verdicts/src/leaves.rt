@@ -9,6 +9,7 @@ ghost use Rattle.rules.specs.Element.{maxRestrict, elementRestrict};
 ghost use Rattle.verdicts.specs.Reasons.{markOf};
 ghost use Rattle.verdicts.specs.Paper.{verdictOf, tablesOf, leavesOf};
 use crate::LEAF_SIZE;
+use crate::PROCESS_AT;
 use crate::Reason;
 use crate::Verdict;
 use particle::MaxOccurs;
@@ -109,7 +110,7 @@ pub fn element_wildcard(l: u8, p: Occurs, m: u8, q: Occurs, tables: &[u8], n: u8
 fn strength(leaves: &[u8], l: u8) -> u8
     ensures { λ r. ⌜ r ≡ leavesOf (now (leaves .entry)) .strength l ⌝ }
 {
-    byte_or(leaves, LEAF_SIZE * (l as usize) + 1, 0)
+    byte_or(leaves, LEAF_SIZE * (l as usize) + PROCESS_AT, 0)
 }
 
 // Wildcard against wildcard: range, weaker process contents, second table.

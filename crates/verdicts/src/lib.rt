@@ -12,8 +12,14 @@ pub use leaves::first;
 pub use leaves::wildcard_wildcard;
 pub use unordered::recurse_unordered;
 
-// A leaf's length in bytes: kind, process contents, local name number (16 bits).
+// A leaf's length in bytes, and where its fields stand: kind at its start, process contents, local name number (16 bits).
 pub const LEAF_SIZE: usize = 4;
+
+pub const PROCESS_AT: usize = 1;
+
+pub const NAME_LOW_AT: usize = 2;
+
+pub const NAME_HIGH_AT: usize = 3;
 
 // The reasons that a paper sets.
 const FIRST_SET: u8 = 140;

@@ -11,6 +11,8 @@ ghost use Rattle.verdicts.specs.Reasons.{markOf};
 ghost use Rattle.verdicts.specs.Paper.{leavesOf, tablesOf};
 ghost use Rattle.verdicts.specs.Taken.{untakenItems, hasName, foundOf, MemberMark};
 use crate::LEAF_SIZE;
+use crate::NAME_HIGH_AT;
+use crate::NAME_LOW_AT;
 use crate::Reason;
 use crate::Verdict;
 use crate::definite;
@@ -31,7 +33,8 @@ fn local_name(leaves: &[u8], l: u8) -> u32
     ensures { λ r. ⌜ r ≡ leavesOf (now (leaves .entry)) .localName l ⌝ }
 {
     let at = LEAF_SIZE * (l as usize);
-    (byte_or(leaves, at + 2, 0) as u32) + (byte_or(leaves, at + 3, 0) as u32) * 256
+    (byte_or(leaves, at + NAME_LOW_AT, 0) as u32)
+        + (byte_or(leaves, at + NAME_HIGH_AT, 0) as u32) * 256
 }
 
 // Whether the item of this record is untaken and an element of this name.
