@@ -7,7 +7,6 @@ use lib.Dec.{eqb, leb}
 use borrow.Author.Tests.{le-leb}
 use Rattle.rules.specs.Verdicts.{Mark, passes, undecided, fails}
 use Rattle.rules.specs.Shown.{canShow}
-use Rattle.intake.specs.declared.Fault.{Fault}
 use Rattle.intake.specs.declared.Fault.the-variants.{Fields, Pair, AllGroup, Depth, Counts}
 use Rattle.intake.specs.declared.Refusal.{Refusal}
 use Rattle.intake.specs.declared.Refusal.the-variants.{Contents, Buffer, Leaf, Verdict, Base, Derived}

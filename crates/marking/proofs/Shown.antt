@@ -8,11 +8,9 @@ use lib.Dec.{leb}
 use lib.ListN.{getD}
 use borrow.Author.Tests.{leb-true, lt-leb}
 use Rattle.particle.proofs.Tests.{and-true}
-use Rattle.rules.specs.Verdicts.{fails}
 use Rattle.rules.specs.Shown.{canShow, OfPaper, PaperVerdicts}
 use Rattle.rules.proofs.Shown.{reasons-shown}
 use Rattle.verdicts.specs.Paper.{paperReason, verdictOf}
-use Rattle.entries.specs.Answer.{gives}
 use Rattle.sheet.specs.Layout.{leafCount, tablesPart}
 use Rattle.sheet.specs.Refused.{every, verdictOk, verdictsOk, sheetRefusal}
 use Rattle.sheet.proofs.AcceptedSheet.{Passed, passed}
