@@ -42,7 +42,7 @@ row-ok (more b r) = rw (byte-ok b, row-ok r)
 reason-verdict : (r : ℕ) → 140 ≤ r → r ≤ 152 → FilledVerdict (verdictOf 1) (verdictOf r)
 reason-verdict zero l h = absurd (omega arith)
 reason-verdict (suc zero) l h = absurd (omega arith)
-reason-verdict (suc (suc r)) l h = rules.filledReason l h
+reason-verdict (suc (suc r)) l h = rw (le-leb 140 (suc (suc r)) l, le-leb (suc (suc r)) 152 h) (rules.filledReason l h)
 
 byte-verdict : {v v′ : ℕ} → FilledByte v v′ → FilledVerdict (verdictOf v) (verdictOf v′)
 byte-verdict unchanged = rules.unchanged

@@ -1,4 +1,6 @@
 pub mod Answers
+pub mod Shown
+pub mod OneAnswer
 pub mod FilledRows
 pub mod Filling
 pub mod EachRecord

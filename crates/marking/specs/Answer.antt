@@ -1,11 +1,13 @@
 -- What marking a sheet answers. Assumes nothing: these are definitions.
 use mathlib.Core.List.{List}
-use Prim.Native.Nat.{ℕ}
+use mathlib.Core.Path.{_≡_}
+use Prim.Native.Nat.{ℕ, _≤_}
 use Rattle.particle.specs.Tree.{Particle, tree}
 use Rattle.intake.specs.Number.{refusalNumber}
 use Rattle.rules.specs.Verdicts.{Mark, passes, undecided, fails, Leaves, Tables}
 use Rattle.rules.specs.Mark.{mark}
 use Rattle.verdicts.specs.Paper.{leavesOf, tablesOf}
+use Rattle.verdicts.specs.declared.Reason.the-variants.{Set}
 use Rattle.verdicts.specs.Reasons.{reasonNumber}
 use Rattle.entries.specs.Answer.{Answer, gives, refused}
 use Rattle.sheet.specs.declared.SheetChecked.{SheetChecked}
@@ -46,3 +48,7 @@ markMeaning Passes = gives passes
 markMeaning Undecided = gives undecided
 markMeaning (Fails r) = gives (fails (reasonNumber r))
 markMeaning (Refused r) = refused (refusalNumber r)
+
+-- The values that `Set` has in an answer: '140..=152 a reason that the paper sets'. So no reason of the rules, 101 to 124, is answered as `Set`.
+abbrev pub SetInRange : MarkAnswer → Type 0
+SetInRange r = (n : ℕ) → r ≡ Fails (Set n) → (140 ≤ n) × (n ≤ 152)

@@ -1,4 +1,5 @@
 pub mod Answer
+pub mod Shown
 pub mod Demand
 pub mod Examples
 pub mod Buffers

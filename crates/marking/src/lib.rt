@@ -12,7 +12,7 @@ ghost use Rattle.sheet.specs.declared.SheetChecked.the-variants.{Accepted};
 ghost use Rattle.sheet.specs.Refused.{sheetRefusal};
 ghost use Rattle.sheet.specs.Layout.{derivedPart, basePart};
 ghost use Rattle.marking.specs.Buffers.{Buffer, Prepared};
-ghost use Rattle.marking.specs.Answer.{markOfSheet, markSheet, markMeaning};
+ghost use Rattle.marking.specs.Answer.{markOfSheet, markSheet, markMeaning, SetInRange};
 use intake::Refusal;
 use sheet::SheetChecked;
 use verdicts::Reason;
@@ -117,6 +117,7 @@ fn mark_accepted(s: &[u8]) -> Verdict
 // The mark of the sheet s, or its refusal.
 pub fn mark(s: &[u8]) -> MarkAnswer
     ensures { λ r. ⌜ markMeaning r ≡ markSheet (now (s .entry)) ⌝ }
+    ensures { λ r. ⌜ SetInRange r ⌝ }
 {
     match sheet::check(s) {
         SheetChecked::Refused(r) => MarkAnswer::Refused(r),

@@ -2,6 +2,7 @@ pub mod Settles
 pub mod RuleSettles
 pub mod Unfolds
 pub mod Filling
+pub mod Shown
 pub mod Passing
 pub mod SoundElements
 pub mod SoundWalk

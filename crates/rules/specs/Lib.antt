@@ -5,4 +5,5 @@ pub mod Walk
 pub mod Rule
 pub mod Mark
 pub mod Demand
+pub mod Shown
 pub mod Examples

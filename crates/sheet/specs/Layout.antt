@@ -1,9 +1,9 @@
--- The exam sheet as bytes: contents, leaves, first table, second table, derived tree, base tree. Nothing else says the layout. Assumes nothing: these are definitions.
+-- The exam sheet as bytes: contents, leaves, first table, second table, derived tree, base tree. Nothing else says where these stand; within a leaf it is verdicts, Paper, that says it, and within a record particle, Record. Assumes nothing: these are definitions.
 use mathlib.Core.List.{List, [], _∷_, _++_}
-use Prim.Native.Nat.{ℕ, zero, suc, _+_, _*_, _/_, _%_}
+use Prim.Native.Nat.{ℕ, zero, suc, _+_, _*_}
 use lib.ListN.{getD, take, drop}
 use Rattle.particle.specs.Record.{recordSize, word, wordBytes}
-use Rattle.verdicts.specs.Paper.{leafSize}
+use Rattle.verdicts.specs.Paper.{leafSize, kindAt, processAt, nameAt, fieldBytes}
 use Rattle.sheet.specs.declared.bodies.Leaf.{Leaf}
 
 -- contents, 8 bytes: leaf count, derived record count, base record count, a zero byte, total length (32 bits)
@@ -60,12 +60,12 @@ derivedPart s = take (recordSize * derivedCount s) (drop (derivedAt (leafCount s
 abbrev pub basePart : List ℕ → List ℕ
 basePart s = take (recordSize * baseCount s) (drop (baseAt (leafCount s) (derivedCount s)) s)
 
--- a leaf, 4 bytes: kind, process contents, local name number (16 bits)
+-- the leaf that s starts with, and the bytes of a leaf
 abbrev pub leafAt : List ℕ → Leaf
-leafAt s = record { kind = getD s 0 0; process = getD s 1 0; name = getD s 2 0 + getD s 3 0 * 256 }
+leafAt s = record { kind = kindAt s 0; process = processAt s 0; name = nameAt s 0 }
 
 abbrev pub leafBytes : Leaf → List ℕ
-leafBytes l = l .kind ∷ l .process ∷ l .name % 256 ∷ l .name / 256 ∷ []
+leafBytes l = fieldBytes (l .kind) (l .process) (l .name)
 
 -- the first n leaves of s, and the bytes of leaves one after the other
 unfoldable pub leavesIn : ℕ → List ℕ → List Leaf

@@ -7,6 +7,9 @@ ghost use lib.ListN.{length, take, drop};
 ghost use Rattle.verdicts.specs.Paper.{leafSize};
 ghost use Rattle.sheet.specs.Layout.{leafAt, leavesIn};
 ghost use Rattle.sheet.specs.Refused.{leafOk, leavesOk, verdictsOk, kindsOf};
+use verdicts::AT_NAME;
+use verdicts::AT_NAME_HIGH;
+use verdicts::AT_PROCESS;
 use verdicts::LEAF_SIZE;
 
 const LAST_VERDICT: u8 = 152;
@@ -29,8 +32,8 @@ fn leaf_at(leaves: &[u8], i: usize) -> Leaf
     let at = LEAF_SIZE * i;
     Leaf {
         kind: leaves[at],
-        process: leaves[at + 1],
-        name: (leaves[at + 2] as u16) + (leaves[at + 3] as u16) * 256,
+        process: leaves[at + AT_PROCESS],
+        name: (leaves[at + AT_NAME] as u16) + (leaves[at + AT_NAME_HIGH] as u16) * 256,
     }
 }
 

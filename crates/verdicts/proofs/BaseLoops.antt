@@ -17,9 +17,9 @@ use Rattle.rules.specs.Verdicts.{Leaves, passes, fails}
 use Rattle.rules.specs.Walk.{takeNamed, untaken}
 use Rattle.verdicts.specs.declared.unordered.Taken.{Taken}
 use Rattle.verdicts.specs.declared.unordered.Taken.the-variants.{Nothing, Element}
-use Rattle.verdicts.specs.Taken.{unmatched, hasName}
+use Rattle.verdicts.specs.Taken.{untakenItems, hasName}
 use Rattle.verdicts.proofs.Rest.{Rest, begin, all-passed, row-here, next}
-use Rattle.verdicts.proofs.Flags.{unmatched-none, Answers, passed-by, taken-first, untaken-past, untaken-missing}
+use Rattle.verdicts.proofs.Flags.{untaken-none, Answers, passed-by, taken-first, untaken-past, untaken-required}
 
 -- the flag at i and those after it
 flag-here : (fs : List Bool) (i : ℕ) → i < length fs → drop i fs ≡ getD fs i false ∷ drop (i + 1) fs
@@ -63,12 +63,12 @@ module _ (bs : List ℕ) (bn : ℕ) (fs : List Bool) where
 
     pub found-none : {rest : List ℕ} {i : ℕ} → Looking rest i → bn ≤ i → Answers L name (row bn bs) fs fs Nothing
     unfolding takeNamed
-    found-none {rest} {i} g l = g .searched (drop i fs) Nothing (rw (all-passed (g .at) l, unmatched-none (drop i fs)))
+    found-none {rest} {i} g l = g .searched (drop i fs) Nothing (rw (all-passed (g .at) l, untaken-none (drop i fs)))
 
-  -- `missing`: what is left has the same mark at the end
+  -- `untaken`: what is left has the same mark at the end
   pub record Seeking (rest : List ℕ) (i : ℕ) : Type 0 where
     pub at : Rest bn i rest
-    pub same : untaken (unmatched fs (row bn bs)) ≡ untaken (unmatched (drop i fs) (row (bn - i) rest))
+    pub same : untaken (untakenItems fs (row bn bs)) ≡ untaken (untakenItems (drop i fs) (row (bn - i) rest))
 
   pub seek : Row bn bs → Seeking bs 0
   seek w =
@@ -79,9 +79,9 @@ module _ (bs : List ℕ) (bn : ℕ) (fs : List Bool) where
     pub seek-on : (r .min ≡ 0) ⊎ (getD fs i false ≡ true) → {s : List ℕ} → s ≡ laterPart rest → Seeking s (i + 1)
     seek-on o p = record { at = next (g .at) l p; same = g .same ∙ rw (row-here (g .at) l p q, flag-here fs i (omega arith)) (untaken-past _ _ _ (getD fs i false) _ (rw (pair-kind (r .kind) (r .leaf) (rangeOf r)) o)) }
 
-    pub missing-here : (r .min ≡ 0 → ⊥) → getD fs i false ≡ false → untaken (unmatched fs (row bn bs)) ≡ fails 109
-    missing-here z e = g .same ∙ rw (row-here (g .at) l refl q, flag-here fs i (omega arith)) (untaken-missing _ _ _ (getD fs i false) _ (rw (pair-kind (r .kind) (r .leaf) (rangeOf r)) z) e)
+    pub untaken-here : (r .min ≡ 0 → ⊥) → getD fs i false ≡ false → untaken (untakenItems fs (row bn bs)) ≡ fails 109
+    untaken-here z e = g .same ∙ rw (row-here (g .at) l refl q, flag-here fs i (omega arith)) (untaken-required _ _ _ (getD fs i false) _ (rw (pair-kind (r .kind) (r .leaf) (rangeOf r)) z) e)
 
-  pub none-missing : {rest : List ℕ} {i : ℕ} → Seeking rest i → bn ≤ i → untaken (unmatched fs (row bn bs)) ≡ passes
+  pub none-required : {rest : List ℕ} {i : ℕ} → Seeking rest i → bn ≤ i → untaken (untakenItems fs (row bn bs)) ≡ passes
   unfolding untaken
-  none-missing {rest} {i} g l = g .same ∙ rw (all-passed (g .at) l, unmatched-none (drop i fs))
+  none-required {rest} {i} g l = g .same ∙ rw (all-passed (g .at) l, untaken-none (drop i fs))

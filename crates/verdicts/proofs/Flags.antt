@@ -13,17 +13,17 @@ use Rattle.rules.specs.Verdicts.{Leaves, fails}
 use Rattle.rules.specs.Walk.{found, behind, takeNamed, untaken}
 use Rattle.verdicts.specs.declared.unordered.Taken.{Taken}
 use Rattle.verdicts.specs.declared.unordered.Taken.the-variants.{Nothing, Element}
-use Rattle.verdicts.specs.Taken.{unmatched, hasName, foundOf}
+use Rattle.verdicts.specs.Taken.{untakenItems, hasName, foundOf}
 use Rattle.particle.proofs.ByKind.{any-kind, other-kind}
 
-pub unmatched-none : (fs : List Bool) → unmatched fs none ≡ none
-unfolding unmatched
-unmatched-none [] = refl
-unmatched-none (f ∷ fs) = refl
+pub untaken-none : (fs : List Bool) → untakenItems fs none ≡ none
+unfolding untakenItems
+untaken-none [] = refl
+untaken-none (f ∷ fs) = refl
 
 -- at first nothing is taken
-pub none-taken : (n : ℕ) (x : Items) → unmatched (replicate n false) x ≡ x
-unfolding unmatched
+pub none-taken : (n : ℕ) (x : Items) → untakenItems (replicate n false) x ≡ x
+unfolding untakenItems
 none-taken zero x = refl
 none-taken (suc n) none = refl
 none-taken (suc n) (item h k r) = ap (item h k) (none-taken n r)
@@ -54,31 +54,31 @@ module _ (L : Leaves) (name : ℕ) where
 
   -- among the items x, r is the answer where the flags are fs, and then they are e
   abbrev pub Answers : Items → (fs e : List Bool) → Taken → Type 0
-  Answers x fs e r = foundOf r (unmatched e x) ≡ takeNamed L name (unmatched fs x)
+  Answers x fs e r = foundOf r (untakenItems e x) ≡ takeNamed L name (untakenItems fs x)
 
   -- an item in front: it is passed, or it is the one
   pub passed-by : (h : Head) (k x : Items) (f : Bool) (fs e : List Bool) (r : Taken) → (not f && hasName L name h) ≡ false → Answers x fs e r → Answers (item h k x) (f ∷ fs) (f ∷ e) r
-  unfolding unmatched
+  unfolding untakenItems
   passed-by h k x true fs e r n a = a
-  passed-by h k x false fs e r n a = in-front r ∙ (ap (behind h k) a ∙ sym (unnamed h k (unmatched fs x) n))
+  passed-by h k x false fs e r n a = in-front r ∙ (ap (behind h k) a ∙ sym (unnamed h k (untakenItems fs x) n))
     where
-      in-front : (r : Taken) → foundOf r (item h k (unmatched e x)) ≡ behind h k (foundOf r (unmatched e x))
+      in-front : (r : Taken) → foundOf r (item h k (untakenItems e x)) ≡ behind h k (foundOf r (untakenItems e x))
       in-front Nothing = refl
       in-front (Element m q) = refl
 
   pub taken-first : (k l : ℕ) (p : Occurs) (y x : Items) (f : Bool) (fs : List Bool) → (not f && hasName L name (headFrom k l p)) ≡ true → Answers (item (headFrom k l p) y x) (f ∷ fs) (true ∷ fs) (Element l p)
-  unfolding unmatched
+  unfolding untakenItems
   taken-first k l p y x true fs e = absurd (true≢false (sym e))
-  taken-first k l p y x false fs e = sym (named k l p y (unmatched fs x) e)
+  taken-first k l p y x false fs e = sym (named k l p y (untakenItems fs x) e)
 
--- at the end, an item in front that is taken, or of minimum 0, does not matter; another one is missing
-pub untaken-past : (h : Head) (k x : Items) (f : Bool) (fs : List Bool) → (pairOf h .min ≡ 0) ⊎ (f ≡ true) → untaken (unmatched (f ∷ fs) (item h k x)) ≡ untaken (unmatched fs x)
-unfolding unmatched untaken
+-- at the end, an item in front that is taken, or of minimum 0, does not matter; another one gives 109
+pub untaken-past : (h : Head) (k x : Items) (f : Bool) (fs : List Bool) → (pairOf h .min ≡ 0) ⊎ (f ≡ true) → untaken (untakenItems (f ∷ fs) (item h k x)) ≡ untaken (untakenItems fs x)
+unfolding untakenItems untaken
 untaken-past h k x true fs o = refl
 untaken-past h k x false fs (inl z) = rw (eq-eqb _ _ z, untaken)
 untaken-past h k x false fs (inr e) = absurd (true≢false (sym e))
 
-pub untaken-missing : (h : Head) (k x : Items) (f : Bool) (fs : List Bool) → (pairOf h .min ≡ 0 → ⊥) → f ≡ false → untaken (unmatched (f ∷ fs) (item h k x)) ≡ fails 109
-unfolding unmatched untaken
-untaken-missing h k x true fs z e = absurd (true≢false e)
-untaken-missing h k x false fs z e = rw (ne-eqb _ _ z, untaken)
+pub untaken-required : (h : Head) (k x : Items) (f : Bool) (fs : List Bool) → (pairOf h .min ≡ 0 → ⊥) → f ≡ false → untaken (untakenItems (f ∷ fs) (item h k x)) ≡ fails 109
+unfolding untakenItems untaken
+untaken-required h k x true fs z e = absurd (true≢false e)
+untaken-required h k x false fs z e = rw (ne-eqb _ _ z, untaken)

@@ -18,7 +18,7 @@ use Rattle.verdicts.specs.declared.Reason.{Reason}
 use Rattle.verdicts.specs.declared.Verdict.{Verdict}
 use Rattle.verdicts.specs.declared.Verdict.the-variants.{Ok, Unknown, Violation}
 use Rattle.verdicts.specs.Reasons.{markOf, definiteOf}
-use Rattle.verdicts.specs.Taken.{unmatched, MemberMark}
+use Rattle.verdicts.specs.Taken.{untakenItems, MemberMark}
 use Rattle.verdicts.proofs.Marks.{now-seen}
 use Rattle.particle.proofs.ByKind.{other-kind}
 use Rattle.verdicts.proofs.Rest.{Rest, begin, all-passed, row-here, next}
@@ -48,7 +48,7 @@ module _ (L : Leaves) (T : Tables) where
     -- what is left has the mark, but for something undecided that was seen
     pub record Going (rest : List ℕ) (i : ℕ) (seen : Bool) (fs : List Bool) : Type 0 where
       pub at : Rest dn i rest
-      pub same : whole ≡ definiteOf seen (recurseUnordered L T (row (dn - i) rest) (unmatched fs y))
+      pub same : whole ≡ definiteOf seen (recurseUnordered L T (row (dn - i) rest) (untakenItems fs y))
 
     pub start : (n : ℕ) → Row dn ds → Going ds 0 false (replicate n false)
     start n w =
@@ -58,8 +58,8 @@ module _ (L : Leaves) (T : Tables) where
     -- an item is left, and r is its record; v is its verdict, after which the flags are es
     module _ {rest : List ℕ} {i : ℕ} {seen : Bool} {fs es : List Bool} {r : Record} {v : Verdict} (g : Going rest i seen fs) (l : i < dn) (q : r ≡ recordAt rest)
         (a : MemberMark L T (headOf r) y fs es v) where
-      judged : {s : List ℕ} → s ≡ laterPart rest → whole ≡ definiteOf seen (markOf v andThen recurseUnordered L T (row (dn - (i + 1)) s) (unmatched es y))
-      judged p = g .same ∙ ap (definiteOf seen) (ap (λ (x : Items). recurseUnordered L T x (unmatched fs y)) (row-here (g .at) l p q) ∙ sym (a .goes-on _ _))
+      judged : {s : List ℕ} → s ≡ laterPart rest → whole ≡ definiteOf seen (markOf v andThen recurseUnordered L T (row (dn - (i + 1)) s) (untakenItems es y))
+      judged p = g .same ∙ ap (definiteOf seen) (ap (λ (x : Items). recurseUnordered L T x (untakenItems fs y)) (row-here (g .at) l p q) ∙ sym (a .goes-on _ _))
 
       pub passed : v ≡ Ok → {s : List ℕ} → s ≡ laterPart rest → Going s (i + 1) seen es
       passed e p = record { at = next (g .at) l p; same = judged p ∙ rw e }
@@ -70,6 +70,6 @@ module _ (L : Leaves) (T : Tables) where
       pub failed : {n : Reason} → v ≡ Violation n → whole ≡ definiteOf seen (markOf v)
       failed e = judged refl ∙ rw e
 
-    pub at-end : {rest : List ℕ} {i : ℕ} {seen : Bool} {fs : List Bool} → Going rest i seen fs → dn ≤ i → whole ≡ definiteOf seen (untaken (unmatched fs y))
+    pub at-end : {rest : List ℕ} {i : ℕ} {seen : Bool} {fs : List Bool} → Going rest i seen fs → dn ≤ i → whole ≡ definiteOf seen (untaken (untakenItems fs y))
     unfolding recurseUnordered
     at-end g l = g .same ∙ rw (all-passed (g .at) l)

@@ -1,3 +1,3 @@
-pub mod Reasons
 pub mod Paper
+pub mod Reasons
 pub mod Taken

@@ -6,7 +6,9 @@ use Rattle.verdicts.specs.declared.Reason.{Reason}
 use Rattle.verdicts.specs.declared.Reason.the-variants.{ElementWildcardRange, WildcardElement, WildcardRange, WeakerProcessContents, SequenceRange, ChoiceRange, AllRange, NotInAll, MissingFromAll, SequenceRequired, NoAlternative, ChoiceRequired, TotalRange, WildcardGroup, GroupKind, SequenceTotal, MemberAlternative, SequenceAllRange, MemberNotElement, NotAllowed, RequiredMissing, MinBelow, MaxUnbounded, MaxAbove, Set}
 use Rattle.verdicts.specs.declared.Verdict.{Verdict}
 use Rattle.verdicts.specs.declared.Verdict.the-variants.{Ok, Unknown, Violation}
+use Rattle.verdicts.specs.Paper.{paperReason}
 
+-- `Set` stands for the reasons that the paper sets, and for no reason of the rules.
 abbrev pub reasonNumber : Reason → ℕ
 reasonNumber ElementWildcardRange = 101
 reasonNumber WildcardElement = 102
@@ -32,7 +34,7 @@ reasonNumber RequiredMissing = 121
 reasonNumber MinBelow = 122
 reasonNumber MaxUnbounded = 123
 reasonNumber MaxAbove = 124
-reasonNumber (Set n) = n
+reasonNumber (Set n) = paperReason n
 
 abbrev pub markOf : Verdict → Mark
 markOf Ok = passes

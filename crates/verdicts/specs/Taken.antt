@@ -14,11 +14,11 @@ use Rattle.verdicts.specs.declared.unordered.Taken.the-variants.{Nothing
 use Rattle.verdicts.specs.Reasons.{markOf}
 
 -- the items that are not taken
-unfoldable pub unmatched : (matched : List Bool) → Items → Items
-unmatched [] x = x
-unmatched (f ∷ fs) none = none
-unmatched (true ∷ fs) (item h k r) = unmatched fs r
-unmatched (false ∷ fs) (item h k r) = item h k (unmatched fs r)
+unfoldable pub untakenItems : (matched : List Bool) → Items → Items
+untakenItems [] x = x
+untakenItems (f ∷ fs) none = none
+untakenItems (true ∷ fs) (item h k r) = untakenItems fs r
+untakenItems (false ∷ fs) (item h k r) = item h k (untakenItems fs r)
 
 -- an element of this local name number
 abbrev pub hasName : Leaves → (name : ℕ) → Head → Bool
@@ -36,4 +36,4 @@ foundOf (Element m q) others = found m q others
 -- v is the mark of a derived item of head h against the base items: this mark, and then the later items against what it leaves untaken, is the mark of all.
 -- The flags were fs and are es.
 pub record MemberMark (L : Leaves) (T : Tables) (h : Head) (base : Items) (fs es : List Bool) (v : Verdict) : Type 0 where
-  pub goes-on : (k later : Items) → markOf v andThen recurseUnordered L T later (unmatched es base) ≡ recurseUnordered L T (item h k later) (unmatched fs base)
+  pub goes-on : (k later : Items) → markOf v andThen recurseUnordered L T later (untakenItems es base) ≡ recurseUnordered L T (item h k later) (untakenItems fs base)

@@ -8,6 +8,7 @@ ghost use Rattle.rules.specs.Combine.{_orFails_, _andThen_};
 ghost use Rattle.rules.specs.Element.{maxRestrict, elementRestrict};
 ghost use Rattle.verdicts.specs.Reasons.{markOf};
 ghost use Rattle.verdicts.specs.Paper.{verdictOf, tablesOf, leavesOf};
+use crate::AT_PROCESS;
 use crate::LEAF_SIZE;
 use crate::Reason;
 use crate::Verdict;
@@ -109,7 +110,7 @@ pub fn element_wildcard(l: u8, p: Occurs, m: u8, q: Occurs, tables: &[u8], n: u8
 fn strength(leaves: &[u8], l: u8) -> u8
     ensures { λ r. ⌜ r ≡ leavesOf (now (leaves .entry)) .strength l ⌝ }
 {
-    byte_or(leaves, LEAF_SIZE * (l as usize) + 1, 0)
+    byte_or(leaves, LEAF_SIZE * (l as usize) + AT_PROCESS, 0)
 }
 
 // Wildcard against wildcard: range, weaker process contents, second table.

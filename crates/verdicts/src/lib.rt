@@ -4,6 +4,7 @@ mod unordered;
 
 ghost use mathlib.Core.Path.{_≡_};
 ghost use Rattle.rules.specs.Combine.{combineReadings};
+ghost use Rattle.verdicts.specs.Paper.{paperReason};
 ghost use Rattle.verdicts.specs.Reasons.{reasonNumber, markOf, definiteOf};
 pub use leaves::element_restrict;
 pub use leaves::element_wildcard;
@@ -11,8 +12,19 @@ pub use leaves::first;
 pub use leaves::wildcard_wildcard;
 pub use unordered::recurse_unordered;
 
-// A leaf's length in bytes: kind, process contents, local name number (16 bits).
+// A leaf's length in bytes, and where its fields stand: kind at its start, process contents, local name number (16 bits).
 pub const LEAF_SIZE: usize = 4;
+
+pub const AT_PROCESS: usize = 1;
+
+pub const AT_NAME: usize = 2;
+
+pub const AT_NAME_HIGH: usize = 3;
+
+// The reasons that a paper sets.
+const FIRST_SET: u8 = 140;
+
+const LAST_SET: u8 = 152;
 
 // Why a restriction fails. Document 01's number of each: specs/Reasons.antt.
 pub enum Reason {
@@ -80,6 +92,19 @@ pub fn combine_readings(a: Verdict, b: Verdict) -> Verdict
     }
 }
 
+// The number of a reason that the paper sets; 0 where n is none.
+fn paper_reason(n: u8) -> u32
+    ensures { λ r. ⌜ r ≡ paperReason n ⌝ }
+{
+    if n < FIRST_SET {
+        return 0;
+    }
+    if LAST_SET < n {
+        return 0;
+    }
+    n as u32
+}
+
 // Document 01's number of a reason.
 pub fn reason_number(r: Reason) -> u32
     ensures { λ n. ⌜ n ≡ reasonNumber r ⌝ }
@@ -109,6 +134,6 @@ pub fn reason_number(r: Reason) -> u32
         Reason::MinBelow => 122,
         Reason::MaxUnbounded => 123,
         Reason::MaxAbove => 124,
-        Reason::Set(n) => n as u32,
+        Reason::Set(n) => paper_reason(n),
     }
 }

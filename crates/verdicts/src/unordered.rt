@@ -9,7 +9,9 @@ ghost use Rattle.particle.specs.Rows.{Row, row};
 ghost use Rattle.rules.specs.Walk.{takeNamed, untaken, recurseUnordered};
 ghost use Rattle.verdicts.specs.Reasons.{markOf};
 ghost use Rattle.verdicts.specs.Paper.{leavesOf, tablesOf};
-ghost use Rattle.verdicts.specs.Taken.{unmatched, hasName, foundOf, MemberMark};
+ghost use Rattle.verdicts.specs.Taken.{untakenItems, hasName, foundOf, MemberMark};
+use crate::AT_NAME;
+use crate::AT_NAME_HIGH;
 use crate::LEAF_SIZE;
 use crate::Reason;
 use crate::Verdict;
@@ -31,7 +33,7 @@ fn local_name(leaves: &[u8], l: u8) -> u32
     ensures { λ r. ⌜ r ≡ leavesOf (now (leaves .entry)) .localName l ⌝ }
 {
     let at = LEAF_SIZE * (l as usize);
-    (byte_or(leaves, at + 2, 0) as u32) + (byte_or(leaves, at + 3, 0) as u32) * 256
+    (byte_or(leaves, at + AT_NAME, 0) as u32) + (byte_or(leaves, at + AT_NAME_HIGH, 0) as u32) * 256
 }
 
 // Whether the item of this record is untaken and an element of this name.
@@ -51,7 +53,7 @@ fn is_free(taken: bool, head: Record, name: u32, leaves: &[u8]) -> bool
 fn take_named(bs: &[u8], bn: usize, matched: &mut [bool], name: u32, leaves: &[u8]) -> Taken
     requires { ⌜ Row bn (now bs) ⌝ }
     requires { ⌜ bn ≤ length (now matched) ⌝ }
-    ensures { λ r. ⌜ foundOf r (unmatched (now (matched .exit)) (row bn (now (bs .entry)))) ≡ takeNamed (leavesOf (now (leaves .entry))) name (unmatched (now (matched .entry)) (row bn (now (bs .entry)))) ⌝ }
+    ensures { λ r. ⌜ foundOf r (untakenItems (now (matched .exit)) (row bn (now (bs .entry)))) ≡ takeNamed (leavesOf (now (leaves .entry))) name (untakenItems (now (matched .entry)) (row bn (now (bs .entry)))) ⌝ }
 {
     let mut rest = bs;
     let mut i: usize = 0;
@@ -68,11 +70,11 @@ fn take_named(bs: &[u8], bn: usize, matched: &mut [bool], name: u32, leaves: &[u
     Taken::Nothing
 }
 
-// Among the first bn trees of bs, an untaken one of minimum above 0 is missing.
-fn missing(bs: &[u8], bn: usize, matched: &[bool]) -> Verdict
+// At the end: 109 where an untaken one of the first bn trees of bs has a minimum above 0.
+fn untaken(bs: &[u8], bn: usize, matched: &[bool]) -> Verdict
     requires { ⌜ Row bn (now bs) ⌝ }
     requires { ⌜ bn ≤ length (now matched) ⌝ }
-    ensures { λ r. ⌜ markOf r ≡ untaken (unmatched (now (matched .entry)) (row bn (now (bs .entry)))) ⌝ }
+    ensures { λ r. ⌜ markOf r ≡ untaken (untakenItems (now (matched .entry)) (row bn (now (bs .entry)))) ⌝ }
 {
     let mut rest = bs;
     let mut i: usize = 0;
@@ -152,5 +154,5 @@ pub fn recurse_unordered(
         rest = &rest[k..];
         i += 1;
     }
-    definite(missing(bs, bn, &matched), seen)
+    definite(untaken(bs, bn, &matched), seen)
 }

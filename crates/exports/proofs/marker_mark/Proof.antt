@@ -33,16 +33,16 @@ add-result : tie.Need-add-result
 add-result c = omega (arith, c .number .ensures, number-most (c .before .before .r2 .given .0 .0))
 
 returns : tie.Need-returns
-returns c = number-of markMeaning markNumber (c .enum-told .given .1) (c .before .before .mark .ensures)
+returns c = number-of markMeaning markNumber (c .enum-told .given .1) (c .before .before .mark .ensures .0)
 
 returns-2 : tie.Need-returns-2
-returns-2 c = number-of markMeaning markNumber (c .enum-told2 .given .1) (c .before .before .mark .ensures)
+returns-2 c = number-of markMeaning markNumber (c .enum-told2 .given .1) (c .before .before .mark .ensures .0)
 
 returns-3 : tie.Need-returns-3
-returns-3 c = c .reason-number .ensures ∙ number-of markMeaning markNumber (c .before .before .r .given .1) (c .before .before .before .before .mark .ensures)
+returns-3 c = c .reason-number .ensures ∙ number-of markMeaning markNumber (c .before .before .r .given .1) (c .before .before .before .before .mark .ensures .0)
 
 returns-4 : tie.Need-returns-4
-returns-4 c = ap (λ (n : ℕ). 1000 + n) (c .number .ensures) ∙ number-of markMeaning markNumber (c .before .before .r2 .given .1) (c .before .before .before .before .mark .ensures)
+returns-4 c = ap (λ (n : ℕ). 1000 + n) (c .number .ensures) ∙ number-of markMeaning markNumber (c .before .before .r2 .given .1) (c .before .before .before .before .mark .ensures .0)
 
 pub marker-mark-spec : {M : Type 1} → statement M
 marker-mark-spec =

@@ -1,5 +1,5 @@
 -- `verdicts::reason_number` meets its contract: each arm is a clause of the definition. Assumes nothing.
-use mathlib.Core.Path.{_≡_, ap, sym}
+use mathlib.Core.Path.{_≡_, ap, sym, _∙_}
 use borrow.Author.Needs.{needs}
 use Rattle.verdicts.specs.declared.Reason.{Reason}
 use Rattle.verdicts.specs.Reasons.{reasonNumber}
@@ -64,4 +64,4 @@ reason-number-spec =
     (λ c. arm (c .enum-told22 .given .1))
     (λ c. arm (c .enum-told23 .given .1))
     (λ c. arm (c .enum-told24 .given .1))
-    (λ c. arm (c .before .r .given .1)))
+    (λ c. c .paper-reason .ensures ∙ arm (c .before .before .r .given .1)))

@@ -3,12 +3,12 @@ use mathlib.Core.Path.{_≡_, refl, ap, sym, _∙_}
 use Prim.Native.Nat.{ℕ, zero, suc}
 use borrow.Author.Needs.{needs}
 use Rattle.rules.specs.Verdicts.{fails}
-use Rattle.verdicts.specs.Paper.{verdictOf}
+use Rattle.verdicts.specs.Paper.{paperReason, verdictOf}
 use Rattle.verdicts.proofs.leaves.verdict_at.Statement.{statement}
 use Rattle.verdicts.proofs.leaves.verdict_at.Tie as tie
 
 -- neither ok nor undecided
-a-reason : (v : ℕ) → (v ≡ 0 → ⊥) → (v ≡ 1 → ⊥) → fails v ≡ verdictOf v
+a-reason : (v : ℕ) → (v ≡ 0 → ⊥) → (v ≡ 1 → ⊥) → fails (paperReason v) ≡ verdictOf v
 a-reason zero z o = absurd (z refl)
 a-reason (suc zero) z o = absurd (o refl)
 a-reason (suc (suc v)) z o = refl

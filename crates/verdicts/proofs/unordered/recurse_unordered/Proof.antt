@@ -67,16 +67,16 @@ loop-again c =
           (c .before .before .match .came),
     )
 
-slice-aggregate-missing : tie.Need-slice-aggregate-missing Inv-loop μ-loop
-slice-aggregate-missing c = sym (c .before .before .loop .inv .0)
+slice-aggregate-untaken : tie.Need-slice-aggregate-untaken Inv-loop μ-loop
+slice-aggregate-untaken c = sym (c .before .before .loop .inv .0)
 
-missing-requires : tie.Need-missing-requires Inv-loop μ-loop
-missing-requires c κs = flagged (c .before .before)
+untaken-requires : tie.Need-untaken-requires Inv-loop μ-loop
+untaken-requires c κs = flagged (c .before .before)
 
 returns-2 : tie.Need-returns-2 Inv-loop μ-loop
 returns-2 c =
     let d = c .before .before .before in
-    c .definite2 .ensures ∙ (ap (definiteOf (d .before .loop .seen)) (c .before .missing .ensures) ∙ sym (at-end _ _ _ _ _ (d .before .loop .inv .1) (d .loop-test .left)))
+    c .definite2 .ensures ∙ (ap (definiteOf (d .before .loop .seen)) (c .before .untaken .ensures) ∙ sym (at-end _ _ _ _ _ (d .before .loop .inv .1) (d .loop-test .left)))
 
 pub recurse-unordered-spec : {M : Type 1} → statement M
 recurse-unordered-spec =
@@ -100,7 +100,7 @@ recurse-unordered-spec =
     (λ c. search needs)
     loop-less
     loop-again
-    slice-aggregate-missing
-    missing-requires
+    slice-aggregate-untaken
+    untaken-requires
     (λ c κs. search needs)
     returns-2)

@@ -1,4 +1,4 @@
--- `unordered::missing` meets its contract: an item that is taken or of minimum 0 is passed. Assumes nothing.
+-- `unordered::untaken` meets its contract: an item that is taken or of minimum 0 is passed. Assumes nothing.
 use mathlib.Core.Logic.{inl, inr, ⊎-elim}
 use mathlib.Core.Path.{sym}
 use Prim.Native.Nat.{_-_}
@@ -6,9 +6,9 @@ use native.Mathlib.Omega.{arith}
 use borrow.Author.Needs.{needs}
 use borrow.Author.Tests.{not-true, not-false}
 use Rattle.verdicts.proofs.Rest.{first, whole-record, run-fits, later-is}
-use Rattle.verdicts.proofs.BaseLoops.{Seeking, seek, seek-on, missing-here, none-missing}
-use Rattle.verdicts.proofs.unordered.missing.Statement.{statement}
-use Rattle.verdicts.proofs.unordered.missing.Tie as tie
+use Rattle.verdicts.proofs.BaseLoops.{Seeking, seek, seek-on, untaken-here, none-required}
+use Rattle.verdicts.proofs.unordered.untaken.Statement.{statement}
+use Rattle.verdicts.proofs.unordered.untaken.Tie as tie
 
 abbrev Inv-loop : tie.InvT-loop
 Inv-loop bs bn matched rest₀ i₀ rest i = Seeking bs bn matched rest i
@@ -25,7 +25,7 @@ record-at-requires c κs = whole-record (c .before .loop .inv .at) (c .loop-test
 returns : tie.Need-returns Inv-loop μ-loop
 returns c =
     let d = c .before .before .before .before .before in
-    sym (missing-here _ _ _ (d .before .loop .inv) (d .loop-test .taken) (d .before .before .before .before .pre .1) (c .before .before .before .before .record-at .ensures)
+    sym (untaken-here _ _ _ (d .before .loop .inv) (d .loop-test .taken) (d .before .before .before .before .pre .1) (c .before .before .before .before .record-at .ensures)
     (λ z. omega (arith, c .before .before .if1 .taken)) (not-true _ (c .if2 .taken)))
 
 run-len-requires : tie.Need-run-len-requires Inv-loop μ-loop
@@ -46,10 +46,10 @@ loop-again c =
     (later-is (g .at) (d .loop-test .taken) (c .before .run-len .ensures))
 
 returns-2 : tie.Need-returns-2 Inv-loop μ-loop
-returns-2 c = sym (none-missing _ _ _ (c .before .loop .inv) (c .loop-test .left))
+returns-2 c = sym (none-required _ _ _ (c .before .loop .inv) (c .loop-test .left))
 
-pub missing-spec : {M : Type 1} → statement M
-missing-spec =
+pub untaken-spec : {M : Type 1} → statement M
+untaken-spec =
     tie.close
     (tie.spec
     Inv-loop

@@ -1,0 +1,111 @@
+-- What the contract of `mark` says of an answer fixes its case and the values that it holds: the case is found again from the numbers. Assumes nothing.
+use mathlib.Core.Bool.{cond, true}
+use mathlib.Core.List.{List, [], _∷_}
+use mathlib.Core.Path.{_≡_, refl, ap, sym, _∙_}
+use Prim.Native.Nat.{ℕ}
+use lib.Dec.{eqb, leb}
+use borrow.Author.Tests.{le-leb}
+use Rattle.rules.specs.Verdicts.{Mark, passes, undecided, fails}
+use Rattle.rules.specs.Shown.{canShow}
+use Rattle.intake.specs.declared.Fault.the-variants.{Fields, Pair, AllGroup, Depth, Counts}
+use Rattle.intake.specs.declared.Refusal.{Refusal}
+use Rattle.intake.specs.declared.Refusal.the-variants.{Contents, Buffer, Leaf, Verdict, Base, Derived}
+use Rattle.intake.specs.Number.{refusalNumber}
+use Rattle.verdicts.specs.declared.Reason.{Reason}
+use Rattle.verdicts.specs.declared.Reason.the-variants.{ElementWildcardRange, WildcardElement, WildcardRange, WeakerProcessContents, SequenceRange, ChoiceRange, AllRange, NotInAll, MissingFromAll, SequenceRequired, NoAlternative, ChoiceRequired, TotalRange, WildcardGroup, GroupKind, SequenceTotal, MemberAlternative, SequenceAllRange, MemberNotElement, NotAllowed, RequiredMissing, MinBelow, MaxUnbounded, MaxAbove, Set}
+use Rattle.verdicts.specs.Reasons.{reasonNumber}
+use Rattle.entries.specs.Answer.{Answer, gives, refused}
+use Rattle.marking.specs.declared.MarkAnswer.{MarkAnswer}
+use Rattle.marking.specs.declared.MarkAnswer.the-variants.{Passes, Undecided, Fails, Refused}
+use Rattle.marking.specs.Answer.{markSheet, markMeaning}
+use Rattle.marking.proofs.Shown.{paper-range, sheet-reasons-shown}
+
+-- the first of a list that has this number
+unfoldable numbered : {A : Type 0} → (A → ℕ) → (otherwise : A) → List A → ℕ → A
+numbered number otherwise [] n = otherwise
+numbered number otherwise (x ∷ xs) n = cond (eqb (number x) n) x (numbered number otherwise xs n)
+
+-- the reasons of the rules
+abbrev ruleReasons : List Reason
+ruleReasons =
+    ElementWildcardRange ∷ WildcardElement ∷ WildcardRange ∷ WeakerProcessContents ∷ SequenceRange ∷ ChoiceRange
+    ∷ AllRange ∷ NotInAll ∷ MissingFromAll ∷ SequenceRequired ∷ NoAlternative ∷ ChoiceRequired
+    ∷ TotalRange ∷ WildcardGroup ∷ GroupKind ∷ SequenceTotal ∷ MemberAlternative ∷ SequenceAllRange
+    ∷ MemberNotElement ∷ NotAllowed ∷ RequiredMissing ∷ MinBelow ∷ MaxUnbounded ∷ MaxAbove
+    ∷ []
+
+abbrev reasonOf : ℕ → Reason
+reasonOf n = cond (leb 140 n) (Set n) (numbered reasonNumber MinBelow ruleReasons n)
+
+reason-back : (r : Reason) → canShow (reasonNumber r) ≡ true → reasonOf (reasonNumber r) ≡ r
+unfolding numbered
+reason-back ElementWildcardRange e = refl
+reason-back WildcardElement e = refl
+reason-back WildcardRange e = refl
+reason-back WeakerProcessContents e = refl
+reason-back SequenceRange e = refl
+reason-back ChoiceRange e = refl
+reason-back AllRange e = refl
+reason-back NotInAll e = refl
+reason-back MissingFromAll e = refl
+reason-back SequenceRequired e = refl
+reason-back NoAlternative e = refl
+reason-back ChoiceRequired e = refl
+reason-back TotalRange e = refl
+reason-back WildcardGroup e = refl
+reason-back GroupKind e = refl
+reason-back SequenceTotal e = refl
+reason-back MemberAlternative e = refl
+reason-back SequenceAllRange e = refl
+reason-back MemberNotElement e = refl
+reason-back NotAllowed e = refl
+reason-back RequiredMissing e = refl
+reason-back MinBelow e = refl
+reason-back MaxUnbounded e = refl
+reason-back MaxAbove e = refl
+reason-back (Set n) e =
+    let p = paper-range n e in
+    rw (le-leb 140 n (p .0), le-leb n 152 (p .1), le-leb 140 n (p .0))
+
+abbrev refusals : List Refusal
+refusals =
+    Contents ∷ Buffer ∷ Leaf ∷ Verdict
+    ∷ Base Fields ∷ Base Pair ∷ Base AllGroup ∷ Base Depth ∷ Base Counts
+    ∷ Derived Fields ∷ Derived Pair ∷ Derived AllGroup ∷ Derived Depth ∷ Derived Counts
+    ∷ []
+
+abbrev refusalOf : ℕ → Refusal
+refusalOf n = numbered refusalNumber Contents refusals n
+
+refusal-back : (r : Refusal) → refusalOf (refusalNumber r) ≡ r
+unfolding numbered
+refusal-back Contents = refl
+refusal-back Buffer = refl
+refusal-back Leaf = refl
+refusal-back Verdict = refl
+refusal-back (Base Fields) = refl
+refusal-back (Base Pair) = refl
+refusal-back (Base AllGroup) = refl
+refusal-back (Base Depth) = refl
+refusal-back (Base Counts) = refl
+refusal-back (Derived Fields) = refl
+refusal-back (Derived Pair) = refl
+refusal-back (Derived AllGroup) = refl
+refusal-back (Derived Depth) = refl
+refusal-back (Derived Counts) = refl
+
+-- the case that stands for this
+abbrev caseOf : Answer Mark → MarkAnswer
+caseOf (gives passes) = Passes
+caseOf (gives undecided) = Undecided
+caseOf (gives (fails n)) = Fails (reasonOf n)
+caseOf (refused n) = Refused (refusalOf n)
+
+case-back : (s : List ℕ) (r : MarkAnswer) → markMeaning r ≡ markSheet s → caseOf (markSheet s) ≡ r
+case-back s Passes e = ap caseOf (sym e)
+case-back s Undecided e = ap caseOf (sym e)
+case-back s (Fails r) e = ap caseOf (sym e) ∙ ap Fails (reason-back r (sheet-reasons-shown s (reasonNumber r) (sym e)))
+case-back s (Refused r) e = ap caseOf (sym e) ∙ ap Refused (refusal-back r)
+
+pub one-answer : (s : List ℕ) (r q : MarkAnswer) → markMeaning r ≡ markSheet s → markMeaning q ≡ markSheet s → r ≡ q
+one-answer s r q e f = sym (case-back s r e) ∙ case-back s q f
