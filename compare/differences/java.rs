@@ -28,9 +28,10 @@ const ASKED: std::ops::RangeInclusive<u32> = 6..=28;
 
 /// What Java says of a case.
 pub struct Said<'a> {
-    pub case: &'a Case,
+    case: &'a Case,
+    number: u32,
     /// 'accepted', or the code of the first error.
-    pub restricting: String,
+    restricting: String,
     /// The same where neither type restricts the other.
     apart: String,
 }
@@ -49,33 +50,40 @@ impl Said<'_> {
     }
 }
 
+/// Whether there is a Java that runs a source file, which needs its compiler.
+fn installed() -> bool {
+    let silent = |name| Command::new(name).arg("-version").output();
+    ["java", "javac"].into_iter().all(|name| silent(name).is_ok())
+}
+
 /// Nothing where Java is not installed.
 pub fn ask(cases: &[Case]) -> io::Result<Option<Vec<Said<'_>>>> {
+    if !installed() {
+        return Ok(None);
+    }
     fs::create_dir_all(FOLDER)?;
     let mut written = Vec::new();
-    for case in cases.iter().filter(|case| case.number.is_some_and(|n| ASKED.contains(&n))) {
-        if let Some((derived, base)) = schema_of(&case.subject) {
+    for case in cases {
+        let number = case.number.filter(|number| ASKED.contains(number));
+        if let (Some(number), Some((derived, base))) = (number, schema_of(&case.subject)) {
             let name = format!("case{}", written.len());
             let file = |part| Path::new(FOLDER).join(format!("{name}.{part}.xsd"));
             fs::write(file("restricting"), schema::restricting(derived, base))?;
             fs::write(file("apart"), schema::apart(derived, base))?;
-            written.push((name, case));
+            written.push((name, number, case));
         }
     }
-    let names = written.iter().map(|(name, _)| name);
+    let names = written.iter().map(|(name, ..)| name);
     let mut command = Command::new("java");
     command.arg(DRIVER).arg(FOLDER).args(names).stderr(Stdio::inherit());
-    let output = match command.output() {
-        Err(error) if error.kind() == io::ErrorKind::NotFound => return Ok(None),
-        output => output?,
-    };
+    let output = command.output()?;
     let text = String::from_utf8_lossy(&output.stdout);
     let lines: Vec<&str> = text.lines().collect();
     assert!(lines.len() == written.len(), "the driver wrote {} lines", lines.len());
-    let said = |((name, case), line): ((String, _), &&str)| {
+    let said = |((name, number, case), line): ((String, _, _), &&str)| {
         let words: Vec<&str> = line.split('\t').collect();
         assert!(words.len() == 3 && words[0] == name, "the driver's line for {name}: {line}");
-        Said { case, restricting: words[1].into(), apart: words[2].into() }
+        Said { case, number, restricting: words[1].into(), apart: words[2].into() }
     };
     Ok(Some(written.into_iter().zip(&lines).map(said).collect()))
 }
@@ -90,14 +98,21 @@ fn schema_of(subject: &Subject) -> Option<(&Tree, &Tree)> {
     paper.statements.iter().all(for_wildcard).then_some((&paper.derived, &paper.base))
 }
 
+/// What was asked, and the answers that are not as our reading's.
+pub fn print(said: &[Said<'_>]) {
+    println!("{} of them were put to Java's validator:", said.len());
+    for said in said.iter().filter(|said| said.class() != Some(AS_W3C)) {
+        println!("  number {}: {} is {}", said.number, said.case.subject, said.restricting);
+    }
+}
+
 /// What is not as the document's table states.
 pub fn wrong(said: &[Said<'_>], document: &Document) -> Vec<String> {
     let mut found: BTreeMap<&str, BTreeSet<u32>> = BTreeMap::new();
-    let number = |said: &Said<'_>| said.case.number.expect("a row's case");
     for said in said {
-        found.entry(said.class().unwrap_or(NOT_ASKED)).or_default().insert(number(said));
+        found.entry(said.class().unwrap_or(NOT_ASKED)).or_default().insert(said.number);
     }
-    let asked: BTreeSet<u32> = said.iter().map(number).collect();
+    let asked: BTreeSet<u32> = said.iter().map(|said| said.number).collect();
     let rest = ASKED.filter(|number| !asked.contains(number));
     found.entry(NOT_ASKED).or_default().extend(rest);
     let mut wrong = Vec::new();

@@ -50,9 +50,9 @@ fn hold(document: &Document) -> Result<(Vec<String>, &'static str), String> {
     println!("{} rows, {cases} cases, {read} of them with a W3C answer", document.rows);
     let mut skipped = "";
     match java::ask(&document.cases).map_err(|error| error.to_string())? {
-        None => skipped = "; skipped Java's validator: java is missing",
+        None => skipped = "; skipped Java's validator: java or javac is missing",
         Some(said) => {
-            println!("{} of them were put to Java's validator", said.len());
+            java::print(&said);
             wrong.extend(java::wrong(&said, document));
         }
     }
