@@ -10,7 +10,6 @@ mod direct;
 mod groups;
 mod models;
 mod peers;
-mod schema;
 mod subjects;
 mod table;
 mod time;

@@ -8,10 +8,9 @@ use std::fs;
 use std::path::Path;
 use std::process::{Command, Stdio};
 
-use common::answers;
+use common::{answers, schema};
 
 use crate::models::{self, Model};
-use crate::schema;
 use crate::subjects::{self, Subject};
 use crate::time;
 
@@ -58,8 +57,9 @@ pub fn print(rounds: usize) -> std::io::Result<()> {
     fs::create_dir_all(FOLDER)?;
     for model in &models {
         let file = |part| Path::new(FOLDER).join(format!("{}.{part}.xsd", model.name));
-        fs::write(file("restricting"), schema::restricting(model))?;
-        fs::write(file("apart"), schema::apart(model))?;
+        let (derived, base) = (model.derived(), model.base());
+        fs::write(file("restricting"), schema::restricting(&derived, &base))?;
+        fs::write(file("apart"), schema::apart(&derived, &base))?;
     }
     let peers = measured(&models);
     println!("\n| model | records | who | answer | compiling, µs | the check, µs |");

@@ -99,7 +99,7 @@ pub fn sheet(derived: &str, base: &str, also: &Also) -> Sheet {
 
 /// Gives each leaf below `tree` its place in `found`, adding it where it is
 /// new; the root's place.
-fn number(tree: &mut Tree, found: &mut Vec<(Kind, u8)>) -> u8 {
+pub fn number(tree: &mut Tree, found: &mut Vec<(Kind, u8)>) -> u8 {
     if tree.kind.is_leaf() {
         let leaf = (tree.kind, tree.leaf);
         let place = found.iter().position(|l| *l == leaf).unwrap_or(found.len());

@@ -93,7 +93,7 @@ fn trees(lot: &Lot) -> Vec<Tree> {
 }
 
 /// Every row of trees with so many records in all.
-fn rows(by_records: &[Vec<Tree>], records: usize) -> Vec<Vec<Tree>> {
+pub fn rows(by_records: &[Vec<Tree>], records: usize) -> Vec<Vec<Tree>> {
     if records == 0 {
         return vec![Vec::new()];
     }

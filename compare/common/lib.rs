@@ -6,5 +6,6 @@ pub mod answers;
 pub mod notation;
 pub mod options;
 pub mod random;
+pub mod schema;
 pub mod sheet;
 pub mod tree;

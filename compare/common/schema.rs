@@ -1,22 +1,20 @@
-//! A model as an XML Schema: a type with the base's content, and one with the
+//! Two trees as an XML Schema: a type with the base's content, and one with the
 //! derived tree's that restricts it, or stands apart from it.
 
-use common::tree::{Kind, Tree};
+use crate::tree::{Kind, Tree};
 
-use crate::models::Model;
-
-pub fn restricting(model: &Model) -> String {
-    let content = content(&model.derived());
+pub fn restricting(derived: &Tree, base: &Tree) -> String {
+    let content = content(derived);
     let restriction = format!("<xs:restriction base=\"base\">{content}</xs:restriction>");
-    schema(model, &format!("<xs:complexContent>{restriction}</xs:complexContent>"))
+    schema(&format!("<xs:complexContent>{restriction}</xs:complexContent>"), base)
 }
 
-pub fn apart(model: &Model) -> String {
-    schema(model, &content(&model.derived()))
+pub fn apart(derived: &Tree, base: &Tree) -> String {
+    schema(&content(derived), base)
 }
 
-fn schema(model: &Model, derived: &str) -> String {
-    let base = content(&model.base());
+fn schema(derived: &str, base: &Tree) -> String {
+    let base = content(base);
     format!(
         "<xs:schema xmlns:xs=\"http://www.w3.org/2001/XMLSchema\">\
          <xs:complexType name=\"base\">{base}</xs:complexType>\

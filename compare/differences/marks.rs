@@ -1,0 +1,92 @@
+//! What the document states of a case, held to the Rust, to the library and to
+//! our reading of the W3C text.
+
+use common::answers::{self, BEYOND};
+use w3c::{Answer, Ways};
+
+use crate::case::{Case, Paper, Subject};
+use crate::document::BY_RULES;
+use crate::search;
+
+/// What is not as stated of a case.
+pub fn wrong(case: &Case) -> Vec<String> {
+    let mut wrong = Vec::new();
+    let mut hold = |who: &str, got: &str, stated: &str| {
+        if got != stated {
+            wrong.push(format!("{}: stated {stated}, {who} {got}", case.subject));
+        }
+    };
+    let answers = answers(&case.subject);
+    let refused = answers.original.starts_with("refused");
+    hold(if refused { "the second reading" } else { "the Rust" }, &answers.original, &case.stated);
+    hold("the library", &answers.library, &case.stated);
+    if let Some(stated) = &case.w3c {
+        hold("our reading of the W3C text", &answers.w3c, stated);
+    }
+    let number = case.number.filter(|number| BY_RULES.contains(number));
+    if let (Some(number), Some(paper)) = (number, different(case)) {
+        if !search::explains(number, &paper.sheet) {
+            wrong.push(format!("{}: differs, but not by this number alone", case.subject));
+        }
+    }
+    wrong
+}
+
+/// The paper of a case on which the Rust and our reading differ.
+pub fn different(case: &Case) -> Option<&Paper> {
+    let Subject::Marked(paper) = &case.subject else {
+        return None;
+    };
+    let w3c = search::reading(&paper.sheet, Ways::W3C)?;
+    (w3c != search::rust(&paper.sheet)).then_some(paper)
+}
+
+/// The Rust's answer (the second reading's where it is a refusal), the
+/// library's, and our reading's.
+struct Answers {
+    original: String,
+    library: String,
+    w3c: String,
+}
+
+fn answers(subject: &Subject) -> Answers {
+    match subject {
+        Subject::Marked(paper) => of_paper(paper),
+        Subject::Tree(tree) => {
+            let (min, max) = w3c::total::total(tree);
+            let max = max.map_or("unbounded".into(), |max| max.to_string());
+            Answers { w3c: format!("{min}, {max}"), ..of_bytes(&tree.encode()) }
+        }
+        Subject::Bytes(bytes) => of_bytes(bytes),
+    }
+}
+
+fn of_paper(paper: &Paper) -> Answers {
+    let bytes = paper.sheet.encode();
+    let w3c = match search::reading(&paper.sheet, Ways::W3C) {
+        Some(Answer::Valid) => "valid",
+        Some(Answer::Fails) => "fails",
+        Some(Answer::Undecided) => "is undecided",
+        None => "hangs on the order",
+    };
+    Answers {
+        original: answers::text(expected::sheet::mark(&bytes)),
+        library: answers::text(library::mark(&bytes)),
+        w3c: w3c.into(),
+    }
+}
+
+/// The total range of a tree alone, or its refusal.
+fn of_bytes(bytes: &[u8]) -> Answers {
+    let text = |min: u64, max: u64| match (min, max) {
+        (refused, _) if refused >= BEYOND => format!("refused {}", refused - BEYOND),
+        (min, BEYOND) => format!("{min}, unbounded"),
+        (min, max) => format!("{min}, {max}"),
+    };
+    let original = expected::tree::answers(bytes);
+    Answers {
+        original: text(original.total_min, original.total_max),
+        library: text(library::total_min(bytes), library::total_max(bytes)),
+        w3c: "has no answer".into(),
+    }
+}
