@@ -50,17 +50,21 @@ impl Said<'_> {
     }
 }
 
-/// Whether there is a Java that runs a source file, which needs its compiler.
-fn installed() -> bool {
-    let silent = |name| Command::new(name).arg("-version").output();
-    ["java", "javac"].into_iter().all(|name| silent(name).is_ok())
+/// Why Java is not asked: it takes a Java that runs a source file, which needs
+/// its compiler, and of the version whose answers the document states.
+pub fn not_asked(document: &Document) -> Option<String> {
+    let version = |name| Command::new(name).arg("-version").output();
+    let (Ok(java), Ok(_)) = (version("java"), version("javac")) else {
+        return Some("java or javac is missing".into());
+    };
+    let text = String::from_utf8_lossy(&java.stderr);
+    let major = text.split('"').nth(1).and_then(|version| version.split('.').next());
+    let major = major.unwrap_or("of an unknown version");
+    let stated = document.says(&format!("(Java {major},"));
+    (!stated).then(|| format!("this is Java {major}, and the table is of another"))
 }
 
-/// Nothing where Java is not installed.
-pub fn ask(cases: &[Case]) -> io::Result<Option<Vec<Said<'_>>>> {
-    if !installed() {
-        return Ok(None);
-    }
+pub fn ask(cases: &[Case]) -> io::Result<Vec<Said<'_>>> {
     fs::create_dir_all(FOLDER)?;
     let mut written = Vec::new();
     for case in cases {
@@ -85,7 +89,7 @@ pub fn ask(cases: &[Case]) -> io::Result<Option<Vec<Said<'_>>>> {
         assert!(words.len() == 3 && words[0] == name, "the driver's line for {name}: {line}");
         Said { case, number, restricting: words[1].into(), apart: words[2].into() }
     };
-    Ok(Some(written.into_iter().zip(&lines).map(said).collect()))
+    Ok(written.into_iter().zip(&lines).map(said).collect())
 }
 
 /// The two trees where a schema can state the case: equal names are ok, others

@@ -23,14 +23,15 @@ fn main() {
     }
     let text = std::fs::read_to_string(DOCUMENT).unwrap_or_else(|error| stop(&error.to_string()));
     let held = document::read(&text).and_then(|document| hold(&document));
-    let (wrong, skipped) = held.unwrap_or_else(|message| (vec![message], ""));
+    let (wrong, skipped) = held.unwrap_or_else(|message| (vec![message], None));
     for line in &wrong {
         println!("difference: {line}");
     }
     if !wrong.is_empty() {
         std::process::exit(1);
     }
-    println!("everything is as {DOCUMENT} states{skipped}");
+    let skipped = skipped.map(|why| format!("; skipped Java's validator: {why}"));
+    println!("everything is as {DOCUMENT} states{}", skipped.unwrap_or_default());
 }
 
 fn stop(message: &str) -> ! {
@@ -38,8 +39,8 @@ fn stop(message: &str) -> ! {
     std::process::exit(2);
 }
 
-/// What is not as stated, and what was skipped.
-fn hold(document: &Document) -> Result<(Vec<String>, &'static str), String> {
+/// What is not as stated, and why Java was skipped, if it was.
+fn hold(document: &Document) -> Result<(Vec<String>, Option<String>), String> {
     let mut wrong = Vec::new();
     for case in &document.cases {
         let row = case.number.map_or("elsewhere".into(), |number| format!("number {number}"));
@@ -48,13 +49,11 @@ fn hold(document: &Document) -> Result<(Vec<String>, &'static str), String> {
     let read = document.cases.iter().filter(|case| case.w3c.is_some()).count();
     let cases = document.cases.len();
     println!("{} rows, {cases} cases, {read} of them with a W3C answer", document.rows);
-    let mut skipped = "";
-    match java::ask(&document.cases).map_err(|error| error.to_string())? {
-        None => skipped = "; skipped Java's validator: java or javac is missing",
-        Some(said) => {
-            java::print(&said);
-            wrong.extend(java::wrong(&said, document));
-        }
+    let skipped = java::not_asked(document);
+    if skipped.is_none() {
+        let said = java::ask(&document.cases).map_err(|error| error.to_string())?;
+        java::print(&said);
+        wrong.extend(java::wrong(&said, document));
     }
     match search::run() {
         Err(line) => wrong.push(line),
