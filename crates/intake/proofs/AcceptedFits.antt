@@ -20,7 +20,7 @@ use Rattle.intake.specs.declared.Checked.the-variants.{Accepted, Refused
 use Rattle.intake.specs.Faults.{Known, faultOf}
 use Rattle.intake.specs.Scan.{Level, level, orElse, scan, refusalIn}
 use Rattle.intake.specs.Accepted.{isAll, TreesFit, TreeFits}
-use Rattle.intake.proofs.Steps.{refused, done, missing, awaited, surplus}
+use Rattle.intake.proofs.Steps.{refused, nothing-awaited, missing, awaited, surplus}
 use Rattle.intake.proofs.Checking.{sized, scanned}
 use Rattle.intake.proofs.Heads as H
 use Rattle.intake.proofs.Heads.{all-kind, clean-fits}
@@ -49,7 +49,7 @@ module _ (known : Known) (W : Type 0) where
   idle : (rs : List Record) (l : Level) (ls : List Level) → l .left ≡ 0 → scan known rs (l ∷ ls) ≡ Accepted → (scan known rs ls ≡ Accepted → Read rs ls) → Read rs (l ∷ ls)
   unfolding Awaited takeI dropI TreesFit
   idle rs l ls z e next =
-      let o = next (sym (done known rs (l .all) ls) ∙ at-level rs l ls z e) in
+      let o = next (sym (nothing-awaited known rs (l .all) ls) ∙ at-level rs l ls z e) in
       record { trees = rw z (omega arith, λ w. tt, o .trees); complete = o .complete; faithful = o .faithful }
 
   -- where it awaits m + 1 items, of which the record r is the first

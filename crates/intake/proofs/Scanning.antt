@@ -16,7 +16,7 @@ use Rattle.intake.specs.declared.Checked.the-variants.{Accepted, Refused
 use Rattle.intake.specs.Limits.{maxDepth}
 use Rattle.intake.specs.Faults.{Known, faultOf}
 use Rattle.intake.specs.Scan.{Level, level, waiting, orElse, scan}
-use Rattle.intake.proofs.Steps.{shallow, done, missing, awaited, surplus}
+use Rattle.intake.proofs.Steps.{shallow, nothing-awaited, missing, awaited, surplus}
 use Rattle.intake.proofs.Heads.{not-in-all}
 
 -- the n groups above the innermost one, by what they await, outermost first; none is an all-group
@@ -57,7 +57,7 @@ start known outer ts l = record { state = record { size = l; within = omega arit
 module _ {known : Known} {ts : List Record} {left : ℕ} {all : Bool} {outer : List ℕ} {above : ℕ} {rs : List Record} (s : Scanning known ts left all outer above rs) where
   -- where the innermost group has its items
   full : left ≡ 0 → wanted known ts ≡ scan known rs (groups above outer)
-  full z = rw z at (s .answer) ∙ done known rs all (groups above outer)
+  full z = rw z at (s .answer) ∙ nothing-awaited known rs all (groups above outer)
 
   pub close : left ≡ 0 → 0 < above → Scanning known ts (getD outer (above - 1) 0) false outer (above - 1) rs
   unfolding groups
@@ -101,18 +101,18 @@ module _ {known : Known} {ts : List Record} {left : ℕ} {all : Bool} {outer : L
   pub judged-as : {found answer : Checked} → Judged known ts left all outer above r next found → found ≡ answer → Judged known ts left all outer above r next answer
   judged-as j e = record { between = j .between; awaits = j .awaits; own = j .own ∙ e }
 
-  step : {found : Checked} → Judged known ts left all outer above r next found → wanted known ts ≡ orElse found (scan known next (level (r .count) (eqb (r .kind) 4) ∷ level (left - 1) all ∷ groups above outer))
-  step j =
+  record-scanned : {found : Checked} → Judged known ts left all outer above r next found → wanted known ts ≡ orElse found (scan known next (level (r .count) (eqb (r .kind) 4) ∷ level (left - 1) all ∷ groups above outer))
+  record-scanned j =
       let d : suc (length (groups above outer)) ≡ above + 1 = omega (arith, length-groups above outer) in
       rw (← j .own, ← d) (busy (j .between .state) (j .awaits) ∙ awaited known r next (left - 1) all (groups above outer))
 
   pub fault : {f : Fault} → Judged known ts left all outer above r next (Refused f) → Refused f ≡ wanted known ts
-  fault j = sym (step j)
+  fault j = sym (record-scanned j)
 
   -- without a fault
   module _ (j : Judged known ts left all outer above r next Accepted) where
     pub leaf : r .count ≡ 0 → Scanning known ts (left - 1) all outer above next
-    leaf z = record { size = j .between .state .size; within = j .between .state .within; answer = rw z at (step j) ∙ done known next _ _ }
+    leaf z = record { size = j .between .state .size; within = j .between .state .within; answer = rw z at (record-scanned j) ∙ nothing-awaited known next _ _ }
 
     pub low : above < maxDepth
     low = omega (arith, shallow known r (above + 1) all (j .own))
@@ -122,7 +122,7 @@ module _ {known : Known} {ts : List Record} {left : ℕ} {all : Bool} {outer : L
     group k =
         let size = j .between .state .size in
         let kept : length (set outer above (left - 1)) ≡ maxDepth = length-set outer above (left - 1) ∙ size in
-        let answer = rw (not-in-all known r (above + 1) all (j .own) k) at (step j) in
+        let answer = rw (not-in-all known r (above + 1) all (j .own) k) at (record-scanned j) in
         record {
           state = record { size = kept; within = omega (arith, low); answer = rw (add-one above, getD-set-same outer above (left - 1) 0 (omega (arith, size, low)), groups-set above outer above (left - 1) (omega arith)) answer };
           top = λ z. absurd (k z);

@@ -81,10 +81,10 @@ module _ (known : Known) (r : Record) (d : ℕ) (a : Bool) (e : faultOf known r 
 
 module _ (known : Known) where
   -- a group that awaits nothing more
-  pub done : (rs : List Record) (a : Bool) (st : List Level) → scan known rs (level 0 a ∷ st) ≡ scan known rs st
+  pub nothing-awaited : (rs : List Record) (a : Bool) (st : List Level) → scan known rs (level 0 a ∷ st) ≡ scan known rs st
   unfolding scan waiting
-  done [] a st = refl
-  done (r ∷ rs) a st = refl
+  nothing-awaited [] a st = refl
+  nothing-awaited (r ∷ rs) a st = refl
 
   pub missing : (n : ℕ) (a : Bool) (st : List Level) → scan known [] (level (suc n) a ∷ st) ≡ Refused Counts
   unfolding scan

@@ -45,8 +45,10 @@ record-front s =
     let w : (i : ℕ) → i + 4 ≤ recordSize → word (take recordSize s) i ≡ word s i = λ i h. word-front recordSize i s h in
     rw (b atKind (omega arith), b atLeaf (omega arith), b atCount (omega arith), b atUnbounded (omega arith), w atMin (omega arith), w atMax (omega arith))
 
--- from `at` on
+-- from `at` on; one tree was lent
 pub record MeasuredFrom (before t : List ℕ) (at : ℕ) : Type 0 where
+  pub whole : Row 1 before
+  pub few : length before ≤ recordSize * maxRecords
   pub same : length t ≡ length before
   pub even : at % recordSize ≡ 0
   pub within : at ≤ length before
@@ -55,19 +57,19 @@ pub record MeasuredFrom (before t : List ℕ) (at : ℕ) : Type 0 where
   pub complete : Complete (records (drop at t))
   pub measured : Measured (records (drop at t))
 
-module _ {before : List ℕ} (w : Row 1 before) where
-  pub none-measured : MeasuredFrom before before (length before)
+module _ {before : List ℕ} where
+  pub none-measured : Row 1 before → length before ≤ recordSize * maxRecords → MeasuredFrom before before (length before)
   unfolding Complete Measured
-  none-measured =
+  none-measured w few =
       let e : records (drop (length before) before) ≡ [] = rw (drop-length before) (records-short [] (omega arith)) in
-      record { same = refl; even = w .even; within = omega arith; front = refl; trees = refl; complete = rw e tt; measured = rw e tt }
+      record { whole = w; few = few; same = refl; even = w .even; within = omega arith; front = refl; trees = refl; complete = rw e tt; measured = rw e tt }
 
   pub all-measured : {t : List ℕ} {at : ℕ} → MeasuredFrom before t at → at ≤ 0 → Run 1 t × (tree t ≡ tree before)
   unfolding tree
   all-measured {t} {at} a h =
       let z : at ≡ 0 = omega arith in
       let b : MeasuredFrom before t 0 = rw z at a in
-      (record { row = record { even = omega (arith, w .even, b .same); complete = b .complete; enough = rw (b .trees) (w .enough) }; measured = b .measured }, ap firstOf (b .trees))
+      (record { row = record { even = omega (arith, b .whole .even, b .same); complete = b .complete; enough = rw (b .trees) (b .whole .enough) }; measured = b .measured }, ap firstOf (b .trees))
 
   -- one turn: the record at p, and what stands from `at` on
   module _ {t : List ℕ} {at : ℕ} (a : MeasuredFrom before t at) (some : 0 < at) where
@@ -102,20 +104,22 @@ module _ {before : List ℕ} (w : Row 1 before) where
     count-fits =
         let h : recordSize ≤ length (drop (at - recordSize) before) = omega (arith, long, a .within, length-drop (at - recordSize) before) in
         let k : at - recordSize ≡ recordSize * ((at - recordSize) / recordSize) = omega (arith, a .even, long) in
-        let c : Complete (records (drop (at - recordSize) before)) = rw (k, records-drop ((at - recordSize) / recordSize) before) (complete-drop ((at - recordSize) / recordSize) (records before) (w .complete)) in
+        let c : Complete (records (drop (at - recordSize) before)) = rw (k, records-drop ((at - recordSize) / recordSize) before) (complete-drop ((at - recordSize) / recordSize) (records before) (a .whole .complete)) in
         let d : Complete (recordAt (drop (at - recordSize) before) ∷ records (drop at before)) = rw (from-here before h) at c in
         rw (a .trees) (d .0)
 
     -- with the record there as it was, or with another leaf number where it is a group's
-    step : {after : List ℕ} (r : Record) → length after ≡ length t → take (at - recordSize) after ≡ take (at - recordSize) t → drop at after ≡ drop at t → recordAt (drop (at - recordSize) after) ≡ r
+    record-measured : {after : List ℕ} (r : Record) → length after ≡ length t → take (at - recordSize) after ≡ take (at - recordSize) t → drop at after ≡ drop at t → recordAt (drop (at - recordSize) after) ≡ r
         → headOf r ≡ headOf (recordAt (drop (at - recordSize) before)) → r .count ≡ recordAt (drop (at - recordSize) before) .count
         → (2 ≤ r .kind → r .leaf ≡ suc (sizeI (row (r .count) (drop at t)))) → MeasuredFrom before after (at - recordSize)
     unfolding Complete Measured decode build takeI sizeI
-    step {after} r same front back here head count size =
+    record-measured {after} r same front back here head count size =
         let h : recordSize ≤ length (drop (at - recordSize) before) = omega (arith, long, a .within, length-drop (at - recordSize) before) in
         let h′ : recordSize ≤ length (drop (at - recordSize) after) = omega (arith, long, a .within, a .same, same, length-drop (at - recordSize) after) in
         let rs : records (drop (at - recordSize) after) ≡ r ∷ records (drop at t) = from-here after h′ ∙ rw (here, back) in
         record {
+          whole = a .whole;
+          few = a .few;
           same = same ∙ a .same;
           even = omega (arith, a .even, long);
           within = omega (arith, a .within);
@@ -130,7 +134,7 @@ module _ {before : List ℕ} (w : Row 1 before) where
 
     -- a leaf's record stays as it is
     pub leaf-measured : getD t (at - recordSize + atKind) 0 < 2 → MeasuredFrom before t (at - recordSize)
-    leaf-measured n = step (recordAt (drop (at - recordSize) t)) refl refl refl refl (ap headOf record-same) (ap (λ (r : Record). r .count) record-same) (λ g. absurd (omega (arith, n, g, kind-is)))
+    leaf-measured n = record-measured (recordAt (drop (at - recordSize) t)) refl refl refl refl (ap headOf record-same) (ap (λ (r : Record). r .count) record-same) (λ g. absurd (omega (arith, n, g, kind-is)))
 
     -- a group of `count` items, whose bytes are handed on as `&t[at + RECORD_SIZE..]`
     module _ {count : ℕ} (c : count ≡ recordAt (drop (at - recordSize) t) .count) where
@@ -143,7 +147,7 @@ module _ {before : List ℕ} (w : Row 1 before) where
       pub items-measured : Run count Rest
       items-measured =
           let e : count ≡ recordAt (drop (at - recordSize) before) .count = c ∙ ap (λ (r : Record). r .count) record-same in
-          rw rest-is (record { row = record { even = omega (arith, w .even, a .same, a .even, a .within, length-drop at t); complete = a .complete; enough = rw e count-fits }; measured = a .measured })
+          rw rest-is (record { row = record { even = omega (arith, a .whole .even, a .same, a .even, a .within, length-drop at t); complete = a .complete; enough = rw e count-fits }; measured = a .measured })
 
       -- whose items take n bytes
       module _ {n : ℕ} (e : n ≡ recordSize * sizeI (row count Rest)) where
@@ -152,13 +156,13 @@ module _ {before : List ℕ} (w : Row 1 before) where
             let f : n ≡ recordSize * sizeI (row count (drop at t)) = rw rest-is at e in
             rw (← c) (omega (arith, f))
 
-        pub size-fits : length before ≤ recordSize * maxRecords → n / recordSize + 1 ≤ maxRecords
+        pub size-fits : n / recordSize + 1 ≤ maxRecords
         unfolding decode
-        size-fits few = omega (arith, size-is, sizeI-split (recordAt (drop (at - recordSize) t) .count) (build (records (drop at t))), sizeI-build (records (drop at t)), length-records (drop at t), length-drop at t, a .same, long, few)
+        size-fits = omega (arith, size-is, sizeI-split (recordAt (drop (at - recordSize) t) .count) (build (records (drop at t))), sizeI-build (records (drop at t)), length-records (drop at t), length-drop at t, a .same, long, a .few)
 
         pub group-measured : 2 ≤ getD t (at - recordSize + atKind) 0 → MeasuredFrom before (set t (at - recordSize + atLeaf) (n / recordSize + 1)) (at - recordSize)
         group-measured g =
             let v = n / recordSize + 1 in
-            step (withLeaf (recordAt (drop (at - recordSize) t)) v) (length-set t (at - recordSize + atLeaf) v) (take-set-le (at - recordSize) t (at - recordSize + atLeaf) v (omega arith)) (drop-set-lt at t (at - recordSize + atLeaf) v (omega (arith, long)))
+            record-measured (withLeaf (recordAt (drop (at - recordSize) t)) v) (length-set t (at - recordSize + atLeaf) v) (take-set-le (at - recordSize) t (at - recordSize + atLeaf) v (omega arith)) (drop-set-lt at t (at - recordSize + atLeaf) v (omega (arith, long)))
             (ap recordAt (drop-set-add (at - recordSize) t atLeaf v) ∙ leaf-stored (drop (at - recordSize) t) v record-long)
             (group-head (recordAt (drop (at - recordSize) t)) v (omega (arith, g, kind-is)) ∙ ap headOf record-same) (ap (λ (r : Record). r .count) record-same) (λ _. size-is)
