@@ -1,5 +1,5 @@
 -- `intake::scan` meets its contract. Assumes nothing.
-use mathlib.Core.Path.{_≡_, refl, ap, sym, _∙_}
+use mathlib.Core.Path.{_≡_, refl, ap, sym}
 use mathlib.Core.List.{_∷_}
 use Prim.Native.Nat.{_<_}
 use native.Mathlib.Omega.{arith}
