@@ -4,7 +4,7 @@ use mathlib.Core.List.{List, [], _∷_}
 use Prim.Native.Nat.{ℕ, zero, suc, _+_, _*_, _-_, _/_, _%_, _≤_, _<_}
 use native.Mathlib.Omega.{arith}
 use lib.ListN.{length, take, drop, getD, set, length-drop, length-set}
-use lib.Seq.{take-take, take-add, drop-at, length-take-le, drop-drop, drop-length, getD-drop, getD-take, take-set-le, drop-set-lt, drop-set-add}
+use lib.Seq.{take-take, take-add, drop-at, length-take-le, drop-drop, drop-length, getD-drop, getD-take, take-set-le, drop-set-lt, drop-set-add, getD-set-same, getD-set-other}
 use Rattle.particle.specs.declared.Record.{Record}
 use Rattle.particle.specs.Record.{recordSize, maxRecords, atKind, atLeaf, atCount, atUnbounded, atMin, atMax, word, recordAt, rangeOf}
 use Rattle.particle.specs.Tree.{takeI, countI, sizeI, headFrom, headOf, build, records, decode, firstOf, tree}
@@ -30,10 +30,16 @@ group-head r v = go (r .kind)
     go (suc (suc (suc (suc k)))) h = refl
 
 -- a leaf number stored
+word-past : (s : List ℕ) (at i v : ℕ) → at < i → word (set s at v) i ≡ word s i
+word-past s at i v h =
+    let o : (j : ℕ) → i ≤ j → getD (set s at v) j 0 ≡ getD s j 0 = λ j l. getD-set-other s at j v 0 (λ e. omega arith) in
+    rw (o i (omega arith), o (i + 1) (omega arith), o (i + 2) (omega arith), o (i + 3) (omega arith))
+
 leaf-stored : (s : List ℕ) (v : ℕ) → recordSize ≤ length s → recordAt (set s atLeaf v) ≡ withLeaf (recordAt s) v
-leaf-stored [] v h = absurd (omega arith)
-leaf-stored (a ∷ []) v h = absurd (omega arith)
-leaf-stored (a ∷ b ∷ s) v h = refl
+leaf-stored s v h =
+    let o : (i : ℕ) → (i ≡ atLeaf → ⊥) → getD (set s atLeaf v) i 0 ≡ getD s i 0 = λ i n. getD-set-other s atLeaf i v 0 n in
+    let w : (i : ℕ) → atLeaf < i → word (set s atLeaf v) i ≡ word s i = λ i l. word-past s atLeaf i v l in
+    rw (getD-set-same s atLeaf v 0 (omega arith), o atKind (λ e. omega arith), o atCount (λ e. omega arith), o atUnbounded (λ e. omega arith), w atMin (omega arith), w atMax (omega arith))
 
 -- a record is its bytes
 word-front : (n i : ℕ) (s : List ℕ) → i + 4 ≤ n → word (take n s) i ≡ word s i
