@@ -20,7 +20,7 @@ use Rattle.intake.specs.declared.Checked.the-variants.{Accepted, Refused
 use Rattle.intake.specs.Faults.{Known, faultOf}
 use Rattle.intake.specs.Scan.{Level, level, orElse, scan, refusalIn}
 use Rattle.intake.specs.Accepted.{isAll, TreesFit, TreeFits}
-use Rattle.intake.proofs.Steps.{refused, done, missing, awaited, surplus}
+use Rattle.intake.proofs.Steps.{refused, nothing-awaited, missing, awaited, surplus}
 use Rattle.intake.proofs.Checking.{sized, scanned}
 use Rattle.intake.proofs.Heads as H
 use Rattle.intake.proofs.Heads.{all-kind, clean-fits}
@@ -32,10 +32,16 @@ or-else (Refused f) d e = absurd (refused e)
 
 -- W says that the records' fields have their widths
 module _ (known : Known) (W : Type 0) where
+  -- x starts with the trees that the group l awaits, at this depth, and the later ones are as Later says
+  record Group (x : Items) (l : Level) (depth : ℕ) (Later : Type 0) : Type 0 where
+    enough : l .left ≤ countI x
+    fit : W → TreesFit known (takeI (l .left) x) depth (l .all)
+    later : Later
+
   -- x is the trees that the groups being read await, the innermost group's first, and no more
   Awaited : Items → List Level → Type 0
   Awaited x [] = x ≡ none
-  Awaited x (l ∷ ls) = (l .left ≤ countI x) × (W → TreesFit known (takeI (l .left) x) (suc (length ls)) (l .all)) × Awaited (dropI (l .left) x) ls
+  Awaited x (l ∷ ls) = Group x l (suc (length ls)) (Awaited (dropI (l .left) x) ls)
 
   record Read (rs : List Record) (st : List Level) : Type 0 where
     trees : Awaited (build rs) st
@@ -49,8 +55,8 @@ module _ (known : Known) (W : Type 0) where
   idle : (rs : List Record) (l : Level) (ls : List Level) → l .left ≡ 0 → scan known rs (l ∷ ls) ≡ Accepted → (scan known rs ls ≡ Accepted → Read rs ls) → Read rs (l ∷ ls)
   unfolding Awaited takeI dropI TreesFit
   idle rs l ls z e next =
-      let o = next (sym (done known rs (l .all) ls) ∙ at-level rs l ls z e) in
-      record { trees = rw z (omega arith, λ w. tt, o .trees); complete = o .complete; faithful = o .faithful }
+      let o = next (sym (nothing-awaited known rs (l .all) ls) ∙ at-level rs l ls z e) in
+      record { trees = record { enough = omega arith; fit = λ w. rw z tt; later = rw z (o .trees) }; complete = o .complete; faithful = o .faithful }
 
   -- where it awaits m + 1 items, of which the record r is the first
   busy : (r : Record) (rs : List Record) (l : Level) (ls : List Level) {m : ℕ} → l .left ≡ suc m → faultOf known r (suc (length ls)) (l .all) ≡ Accepted → (W → Widths (r ∷ rs)) → Read rs (level (r .count) (eqb (r .kind) 4) ∷ level m (l .all) ∷ ls) → Read (r ∷ rs) (l ∷ ls)
@@ -60,8 +66,14 @@ module _ (known : Known) (W : Type 0) where
       let k : isAll (headOf r) ≡ eqb (r .kind) 4 = sym (all-kind (headOf r)) ∙ ap (λ (x : Record). eqb (x .kind) 4) own in
       let i = o .trees in
       record {
-        trees = rw (build-cons r rs, z) (omega (arith, i .2 .0), λ v. (clean-fits known r _ _ q (build rs) (w v .0 .min) (w v .0 .max), rw k (i .1 v), i .2 .1 v), i .2 .2);
-        complete = (i .0, o .complete);
+        trees =
+            rw (build-cons r rs)
+            (record {
+              enough = omega (arith, i .later .enough);
+              fit = λ v. rw z (clean-fits known r _ _ q (build rs) (w v .0 .min) (w v .0 .max), rw k (i .fit v), i .later .fit v);
+              later = rw z (i .later .later);
+            });
+        complete = (i .enough, o .complete);
         faithful = (own, o .faithful);
       }
 
@@ -102,14 +114,14 @@ module _ (known : Known) (t : List ℕ) (e : refusalIn known t ≡ Accepted) whe
 
   pub accepted-row : Row 1 t
   unfolding Awaited
-  accepted-row = record { even = sized known t e .even; complete = all-read .complete; enough = rw (decode-is t) (all-read .trees .0) }
+  accepted-row = record { even = sized known t e .even; complete = all-read .complete; enough = rw (decode-is t) (all-read .trees .enough) }
 
   pub accepted-faithful : Faithful (records t)
   accepted-faithful = all-read .faithful
 
   pub accepted-decode : decode t ≡ single (tree t)
   unfolding Awaited tree
-  accepted-decode = one (decode t) (accepted-row .enough) (rw (decode-is t) (all-read .trees .2))
+  accepted-decode = one (decode t) (accepted-row .enough) (rw (decode-is t) (all-read .trees .later))
 
   built : build (records t) ≡ single (tree t)
   built = sym (decode-is t) ∙ accepted-decode
@@ -121,7 +133,7 @@ module _ (known : Known) (t : List ℕ) (e : refusalIn known t ≡ Accepted) whe
   unfolding Awaited takeI
   fitting b = record {
     few = rw (← built, sizeI-build (records t), length-records t) (omega (arith, sized known t e .few));
-    each = rw built at (all-read .trees .1 b);
+    each = rw built at (all-read .trees .fit b);
   }
 
 pub accepted-fits : (known : Known) (t : List ℕ) → Bytes t → refusalIn known t ≡ Accepted → (t ≡ encode (single (tree t))) × TreeFits known (tree t)

@@ -16,7 +16,7 @@ use Rattle.intake.specs.declared.Checked.the-variants.{Accepted}
 use Rattle.intake.specs.Faults.{Known}
 use Rattle.intake.specs.Scan.{Level, level, waiting, orElse, scan, refusalIn}
 use Rattle.intake.specs.Accepted.{isAll, TreesFit, TreeFits}
-use Rattle.intake.proofs.Steps.{done, awaited}
+use Rattle.intake.proofs.Steps.{nothing-awaited, awaited}
 use Rattle.intake.proofs.Checking.{Sized, scanned}
 use Rattle.intake.proofs.Heads.{all-kind, fits-clean}
 
@@ -40,7 +40,7 @@ module _ (known : Known) where
       ∙ rw
       (append-assoc (flat k) (flat r) rs, all-kind h)
       (flat-scan k (flat r ++ rs) (countI k) 0 (omega arith) (isAll h) (level (countI r + n) a ∷ st) (f .1)
-      ∙ (done known (flat r ++ rs) (isAll h) (level (countI r + n) a ∷ st)
+      ∙ (nothing-awaited known (flat r ++ rs) (isAll h) (level (countI r + n) a ∷ st)
       ∙ flat-scan r rs (countI r + n) n refl a st (f .2)))))
 
   nothing-left : scan known [] (level 0 false ∷ []) ≡ Accepted

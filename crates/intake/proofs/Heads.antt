@@ -82,11 +82,16 @@ fits-clean {known} {h} {k} {d} {a} f =
 
 -- From a record to its head ----------------------------------------------------
 
-parts : (known : Known) (r : Record) → fieldsOk known r ≡ true → (leb (r .kind) 4 ≡ true) × (leafOk known r ≡ true) × (boundOk r ≡ true)
-parts known r e =
+record Fields (known : Known) (r : Record) : Type 0 where
+  kind : leb (r .kind) 4 ≡ true
+  leaf : leafOk known r ≡ true
+  bound : boundOk r ≡ true
+
+fields : (known : Known) (r : Record) → fieldsOk known r ≡ true → Fields known r
+fields known r e =
     let s = and-true (leb (r .kind) 4) (leafOk known r && boundOk r) e in
     let s′ = and-true (leafOk known r) (boundOk r) (s .1) in
-    (s .0, s′ .0, s′ .1)
+    record { kind = s .0; leaf = s′ .0; bound = s′ .1 }
 
 kind-back : (k l : ℕ) (p : Occurs) → k ≤ 4 → kindNumber (headFrom k l p) ≡ k
 kind-back k l p h = omega (arith, kind-capped k l p)
@@ -145,10 +150,10 @@ member-fits true (all p) e = false≢true e
 head-fits : (known : Known) (h : Head) (n : ℕ) (b : Items) (d : ℕ) (a : Bool) → faultOf known (recordOf h n) d a ≡ Accepted → pairOf h .min < 2 ^ 32 → maxNumber (pairOf h .max) < 2 ^ 32 → RecordFits known h (takeI n b) d a
 head-fits known h n b d a e hn hm =
     let c = clean known (recordOf h n) d a e in
-    let g = and-true _ (not a || eqb (kindNumber h) 0) (c .2) in
+    let g = and-true _ (not a || eqb (kindNumber h) 0) (c .group) in
     record {
-      leaf = leaf-fits known h n b (parts known (recordOf h n) (c .0) .1);
-      pair = max-fits (pairOf h .min) (pairOf h .max) hn hm (c .1);
+      leaf = leaf-fits known h n b (fields known (recordOf h n) (c .fields) .leaf);
+      pair = max-fits (pairOf h .min) (pairOf h .max) hn hm (c .pair);
       group = all-fits h (g .0);
       member = member-fits a h (g .1);
       shallow = shallow known (recordOf h n) d a e;
@@ -158,11 +163,11 @@ module _ (known : Known) (r : Record) (d : ℕ) (a : Bool) (e : faultOf known r 
   -- no field says more than the head does
   pub faithful : recordOf (headOf r) (r .count) ≡ r
   faithful =
-      let fields = parts known r (clean known r d a e .0) in
+      let own = fields known r (clean known r d a e .fields) in
       let pair = pair-kind (r .kind) (r .leaf) (rangeOf r) in
-      let mark = max-back (r .unbounded) (r .max) (fields .2) in
-      let kind = kind-back (r .kind) (r .leaf) (rangeOf r) (leb-true _ _ (fields .0)) in
-      let leaf = leaf-back (r .kind) (r .leaf) (rangeOf r) _ (fields .1) in
+      let mark = max-back (r .unbounded) (r .max) (own .bound) in
+      let kind = kind-back (r .kind) (r .leaf) (rangeOf r) (leb-true _ _ (own .kind)) in
+      let leaf = leaf-back (r .kind) (r .leaf) (rangeOf r) _ (own .leaf) in
       let unbounded = ap (λ (p : Occurs). markNumber (p .max)) pair ∙ mark .0 in
       let min = ap (λ (p : Occurs). p .min) pair in
       let max = ap (λ (p : Occurs). maxNumber (p .max)) pair ∙ mark .1 in
@@ -186,6 +191,6 @@ pub not-in-all : (known : Known) (r : Record) (d : ℕ) (a : Bool) → faultOf k
 not-in-all known r d false e n = refl
 not-in-all known r d true e n =
     let c = clean known r d true e in
-    let kind = eqb-true (r .kind) 0 (and-true (not (eqb (r .kind) 4) || (eqb (r .unbounded) 0 && eqb (r .max) 1)) (eqb (r .kind) 0) (c .2) .1) in
-    let leaf = rw kind at (parts known r (c .0) .1) in
+    let kind = eqb-true (r .kind) 0 (and-true (not (eqb (r .kind) 4) || (eqb (r .unbounded) 0 && eqb (r .max) 1)) (eqb (r .kind) 0) (c .group) .1) in
+    let leaf = rw kind at (fields known r (c .fields) .leaf) in
     absurd (n (eqb-true (r .count) 0 (and-true (known 0 (r .leaf)) (eqb (r .count) 0) leaf .1)))

@@ -1,12 +1,12 @@
 -- One step of the scan: a group that has its items, a record that is missing, awaited or too many, and a record's own fault. Assumes nothing.
-use mathlib.Core.Path.{_≡_, refl, ap}
-use mathlib.Core.Bool.{Bool, true, false, cond}
+use mathlib.Core.Path.{_≡_, refl, ap, sym, _∙_}
+use mathlib.Core.Bool.{Bool, true, false, cond, not}
 use mathlib.Core.List.{List, [], _∷_}
-use Prim.Native.Nat.{ℕ, suc, _≤_}
+use Prim.Native.Nat.{ℕ, suc, _≤_, _<_}
 use native.Mathlib.Omega.{arith}
 use lib.Dec.{eqb, leb}
 use lib.ListN.{length}
-use borrow.Author.Tests.{ne-eqb, leb-true}
+use borrow.Author.Tests.{ne-eqb, leb-true, le-leb, lt-leb, not-true, not-false}
 use Rattle.particle.specs.declared.Record.{Record}
 use Rattle.intake.specs.declared.Fault.{Fault}
 use Rattle.intake.specs.declared.Fault.the-variants.{Fields, Pair, AllGroup, Depth, Counts}
@@ -30,27 +30,61 @@ outcome f p g s = cond f (cond p (cond g (cond s Accepted (Refused Depth)) (Refu
 pub tests : (known : Known) (r : Record) (d : ℕ) (a : Bool) {f p g s : Bool} → fieldsOk known r ≡ f → pairOk r ≡ p → allOk r a ≡ g → leb d maxDepth ≡ s → outcome f p g s ≡ faultOf known r d a
 tests known r d a f p g s = rw (f, p, g, s)
 
+-- what the first three tests found of a record at depth d: the first that failed names the fault, and then the depth
+pub record Tested (known : Known) (r : Record) (d : ℕ) (a fields pair group : Bool) : Type 0 where
+  pub fields-is : fields ≡ fieldsOk known r
+  pub pair-is : pair ≡ pairOk r
+  pub group-is : group ≡ allOk r a
+
+module _ {known : Known} {r : Record} {d : ℕ} {a f p g : Bool} (t : Tested known r d a f p g) where
+  decided : {f′ p′ g′ s : Bool} → f ≡ f′ → p ≡ p′ → g ≡ g′ → leb d maxDepth ≡ s → outcome f′ p′ g′ s ≡ faultOf known r d a
+  decided x y z s = tests known r d a (sym (t .fields-is) ∙ x) (sym (t .pair-is) ∙ y) (sym (t .group-is) ∙ z) s
+
+  pub fields-fault : not f ≡ true → Refused Fields ≡ faultOf known r d a
+  fields-fault x = decided (not-true f x) refl refl refl
+
+  module _ (x : not f ≡ false) where
+    pub pair-fault : not p ≡ true → Refused Pair ≡ faultOf known r d a
+    pair-fault y = decided (not-false f x) (not-true p y) refl refl
+
+    module _ (y : not p ≡ false) where
+      pub group-fault : not g ≡ true → Refused AllGroup ≡ faultOf known r d a
+      group-fault z = decided (not-false f x) (not-false p y) (not-true g z) refl
+
+      module _ (z : not g ≡ false) where
+        pub no-fault : d ≤ maxDepth → Accepted ≡ faultOf known r d a
+        no-fault l = decided (not-false f x) (not-false p y) (not-false g z) (le-leb _ _ l)
+
+        pub depth-fault : maxDepth < d → Refused Depth ≡ faultOf known r d a
+        depth-fault l = decided (not-false f x) (not-false p y) (not-false g z) (lt-leb _ _ l)
+
 -- a record without fault passes each test
+pub record Clean (known : Known) (r : Record) (d : ℕ) (a : Bool) : Type 0 where
+  pub fields : fieldsOk known r ≡ true
+  pub pair : pairOk r ≡ true
+  pub group : allOk r a ≡ true
+  pub depth : leb d maxDepth ≡ true
+
 module _ (known : Known) (r : Record) (d : ℕ) (a : Bool) (e : faultOf known r d a ≡ Accepted) where
-  pub clean : (fieldsOk known r ≡ true) × (pairOk r ≡ true) × (allOk r a ≡ true) × (leb d maxDepth ≡ true)
-  clean = go (fieldsOk known r) (pairOk r) (allOk r a) (leb d maxDepth) e
+  pub clean : Clean known r d a
+  clean = go (fieldsOk known r) (pairOk r) (allOk r a) (leb d maxDepth) refl refl refl refl e
     where
-      go : (f p g s : Bool) → outcome f p g s ≡ Accepted → (f ≡ true) × (p ≡ true) × (g ≡ true) × (s ≡ true)
-      go true true true true q = (refl, refl, refl, refl)
-      go true true true false q = absurd (refused q)
-      go true true false s q = absurd (refused q)
-      go true false g s q = absurd (refused q)
-      go false p g s q = absurd (refused q)
+      go : (f p g s : Bool) → fieldsOk known r ≡ f → pairOk r ≡ p → allOk r a ≡ g → leb d maxDepth ≡ s → outcome f p g s ≡ Accepted → Clean known r d a
+      go true true true true x y z w q = record { fields = x; pair = y; group = z; depth = w }
+      go true true true false x y z w q = absurd (refused q)
+      go true true false s x y z w q = absurd (refused q)
+      go true false g s x y z w q = absurd (refused q)
+      go false p g s x y z w q = absurd (refused q)
 
   pub shallow : d ≤ maxDepth
-  shallow = leb-true d maxDepth (clean .3)
+  shallow = leb-true d maxDepth (clean .depth)
 
 module _ (known : Known) where
   -- a group that awaits nothing more
-  pub done : (rs : List Record) (a : Bool) (st : List Level) → scan known rs (level 0 a ∷ st) ≡ scan known rs st
+  pub nothing-awaited : (rs : List Record) (a : Bool) (st : List Level) → scan known rs (level 0 a ∷ st) ≡ scan known rs st
   unfolding scan waiting
-  done [] a st = refl
-  done (r ∷ rs) a st = refl
+  nothing-awaited [] a st = refl
+  nothing-awaited (r ∷ rs) a st = refl
 
   pub missing : (n : ℕ) (a : Bool) (st : List Level) → scan known [] (level (suc n) a ∷ st) ≡ Refused Counts
   unfolding scan

@@ -80,7 +80,7 @@ module _ {s : List ℕ} (a : Passed s) where
 
   record-known : (r : Record) (depth : ℕ) (inAll : Bool) → faultOf (knownIn s) r depth inAll ≡ Accepted → LeafKnown (sheetLeaves s) (headOf r)
   record-known r depth inAll e =
-      let fields = and-true (leb (r .kind) 4) _ (clean (knownIn s) r depth inAll e .0) .1 in
+      let fields = and-true (leb (r .kind) 4) _ (clean (knownIn s) r depth inAll e .fields) .1 in
       leaf-known (r .kind) (r .leaf) (rangeOf r) (eqb (r .count) 0) (eqb (r .leaf) 0) (and-true (leafOk (knownIn s) r) (boundOk r) fields .0)
 
   in-order : (mark min max : ℕ) → (eqb mark 1 || leb min max) ≡ true → AtMost min (maxOf mark max)
@@ -88,7 +88,7 @@ module _ {s : List ℕ} (a : Passed s) where
   in-order (suc mark) min max e = tt
 
   record-ordered : (r : Record) (depth : ℕ) (inAll : Bool) → faultOf (knownIn s) r depth inAll ≡ Accepted → AtMost (pairOf (headOf r) .min) (pairOf (headOf r) .max)
-  record-ordered r depth inAll e = rw (pair-record r) (in-order (r .unbounded) (r .min) (r .max) (clean (knownIn s) r depth inAll e .1))
+  record-ordered r depth inAll e = rw (pair-record r) (in-order (r .unbounded) (r .min) (r .max) (clean (knownIn s) r depth inAll e .pair))
 
   supposed : (t : List ℕ) → refusalIn (knownIn s) t ≡ Accepted → Plain (tree t) → Supposed (sheetLeaves s) (tree t)
   supposed t e p = record {

@@ -13,7 +13,7 @@ use Rattle.particle.specs.Rows.{Row, row, runSize, itemsPart, itemStart,
 use Rattle.particle.specs.Encode.{flat, joined, encode, Bytes, Faithful}
 use Rattle.particle.proofs.Records.{records-drop}
 use Rattle.particle.proofs.Laws.{tree-is}
-use Rattle.particle.proofs.ItemWalk.{Walk, begin, next, one-left}
+use Rattle.particle.proofs.ItemWalk.{Walk, begin, run-passed}
 use Rattle.particle.proofs.RoundTrip.{encode-decode, flat-split, bytes-drop}
 
 pub joined-append : (a b : List Record) → joined (a ++ b) ≡ joined a ++ joined b
@@ -63,23 +63,19 @@ run-encodes s b w f =
     ap (λ (x : List ℕ). take (runSize s) x) e ∙ take-at (encode (row 1 s)) (encode (dropI 1 (decode s))) (runSize s) (length-encode (row 1 s))
 
 -- a walk stands where its item starts
-placed : {t : List ℕ} {n at i : ℕ} → Walk t n at i → Walk t n (itemStart i t) i
-placed {t} {n} {at} {i} g = subst (λ (a : ℕ). Walk t n a i) (g .start) g
+placed : {t : List ℕ} {k at i : ℕ} → Walk t k at i → Walk t k (itemStart i t) i
+placed {t} {k} {at} {i} g = subst (λ (a : ℕ). Walk t k a i) (g .start) g
 
-walk-to : (t : List ℕ) → Row 1 t → (k : ℕ) → k ≤ recordAt t .count → Walk t (recordAt t .count - k) (itemStart k t) k
-walk-to t w zero h =
-    let e : recordAt t .count ≡ recordAt t .count - 0 = omega arith in
-    subst (λ (n : ℕ). Walk t n (itemStart 0 t) 0) e (placed (begin t w))
-walk-to t w (suc k) h =
-    let g = next t (itemStart k t) k (one-left (recordAt t .count) h (walk-to t w k (omega arith))) in
-    subst (λ (i : ℕ). Walk t (recordAt t .count - i) (itemStart i t) i) (add-one k) (placed g)
+walk-to : {t : List ℕ} {k : ℕ} → Row 1 t → k < recordAt t .count → (i : ℕ) → i ≤ k → Walk t k (itemStart i t) i
+walk-to w h zero l = placed (begin w h)
+walk-to {t} {k} w h (suc i) l = subst (λ (j : ℕ). Walk t k (itemStart j t) j) (add-one i) (placed (run-passed (walk-to w h i (omega arith)) l refl))
 
 -- The k-th item's bytes are the encoding of the root's k-th item.
 pub item-encodes : (t : List ℕ) (k : ℕ) → Bytes t → Row 1 t → Faithful (records t) → k < recordAt t .count → itemRun k t ≡ encode (takeI 1 (dropI k (tree t .items)))
 unfolding itemRun itemStart
 item-encodes t k b w f h =
     let at = itemStart k t in
-    let g = walk-to t w k (omega arith) in
+    let g = walk-to w h k (omega arith) in
     let m : at ≡ recordSize * suc (sizeI (row k (itemsPart t))) = omega arith in
     let f′ : Faithful (records (drop at t)) = rw (m, records-drop (suc (sizeI (row k (itemsPart t)))) t) (faithful-drop (suc (sizeI (row k (itemsPart t)))) (records t) f) in
     let items : tree t .items ≡ row (recordAt t .count) (itemsPart t) = ap (λ (p : Particle). p .items) (tree-is w) in

@@ -1,5 +1,5 @@
 -- The laws by which callers read trees: the first tree of a row, its items, and the trees after it. Assumes nothing.
-use mathlib.Core.Path.{_≡_, refl, ap}
+use mathlib.Core.Path.{_≡_, refl, ap, _∙_}
 use mathlib.Core.List.{List, _∷_}
 use Prim.Native.Nat.{ℕ, suc, _+_, _*_, _-_, _≤_, _<_}
 use native.Mathlib.Nat.{le-of-eq}
@@ -32,6 +32,14 @@ run-is t = refl
 pub run-within : (t : List ℕ) → runSize t ≤ length t
 unfolding runSize decode
 run-within t = omega (arith, sizeI-split 1 (build (records t)), sizeI-build (records t), length-records t)
+
+-- n bytes on, where the first tree ends
+module _ (t : List ℕ) {n : ℕ} (e : n ≡ runSize t) where
+  pub end-within : n ≤ length t
+  end-within = rw e (run-within t)
+
+  pub later-is : take (length t - n) (drop n t) ≡ laterPart t
+  later-is = part-is t n ∙ ap (λ (k : ℕ). drop k t) e
 
 module _ {n : ℕ} {t : List ℕ} (w : Row (suc n) t) where
   split : records t ≡ recordAt t ∷ records (itemsPart t)

@@ -4,7 +4,7 @@ use mathlib.Core.List.{List, [], _∷_}
 use Prim.Native.Nat.{ℕ, zero, suc, _+_, _*_, _-_, _/_, _%_, _≤_, _<_}
 use native.Mathlib.Omega.{arith}
 use lib.ListN.{length, take, drop, getD, set, length-drop, length-set}
-use lib.Seq.{take-take, take-add, drop-at, length-take-le, drop-drop, drop-length, getD-drop, getD-take, take-set-le, drop-set-lt, drop-set-add}
+use lib.Seq.{take-take, take-add, drop-at, length-take-le, drop-drop, drop-length, getD-drop, getD-take, take-set-le, drop-set-lt, drop-set-add, getD-set-same, getD-set-other}
 use Rattle.particle.specs.declared.Record.{Record}
 use Rattle.particle.specs.Record.{recordSize, maxRecords, atKind, atLeaf, atCount, atUnbounded, atMin, atMax, word, recordAt, rangeOf}
 use Rattle.particle.specs.Tree.{takeI, countI, sizeI, headFrom, headOf, build, records, decode, firstOf, tree}
@@ -30,10 +30,16 @@ group-head r v = go (r .kind)
     go (suc (suc (suc (suc k)))) h = refl
 
 -- a leaf number stored
+word-past : (s : List ℕ) (at i v : ℕ) → at < i → word (set s at v) i ≡ word s i
+word-past s at i v h =
+    let o : (j : ℕ) → i ≤ j → getD (set s at v) j 0 ≡ getD s j 0 = λ j l. getD-set-other s at j v 0 (λ e. omega arith) in
+    rw (o i (omega arith), o (i + 1) (omega arith), o (i + 2) (omega arith), o (i + 3) (omega arith))
+
 leaf-stored : (s : List ℕ) (v : ℕ) → recordSize ≤ length s → recordAt (set s atLeaf v) ≡ withLeaf (recordAt s) v
-leaf-stored [] v h = absurd (omega arith)
-leaf-stored (a ∷ []) v h = absurd (omega arith)
-leaf-stored (a ∷ b ∷ s) v h = refl
+leaf-stored s v h =
+    let o : (i : ℕ) → (i ≡ atLeaf → ⊥) → getD (set s atLeaf v) i 0 ≡ getD s i 0 = λ i n. getD-set-other s atLeaf i v 0 n in
+    let w : (i : ℕ) → atLeaf < i → word (set s atLeaf v) i ≡ word s i = λ i l. word-past s atLeaf i v l in
+    rw (getD-set-same s atLeaf v 0 (omega arith), o atKind (λ e. omega arith), o atCount (λ e. omega arith), o atUnbounded (λ e. omega arith), w atMin (omega arith), w atMax (omega arith))
 
 -- a record is its bytes
 word-front : (n i : ℕ) (s : List ℕ) → i + 4 ≤ n → word (take n s) i ≡ word s i
@@ -45,8 +51,10 @@ record-front s =
     let w : (i : ℕ) → i + 4 ≤ recordSize → word (take recordSize s) i ≡ word s i = λ i h. word-front recordSize i s h in
     rw (b atKind (omega arith), b atLeaf (omega arith), b atCount (omega arith), b atUnbounded (omega arith), w atMin (omega arith), w atMax (omega arith))
 
--- from `at` on
+-- from `at` on; one tree was lent
 pub record MeasuredFrom (before t : List ℕ) (at : ℕ) : Type 0 where
+  pub whole : Row 1 before
+  pub few : length before ≤ recordSize * maxRecords
   pub same : length t ≡ length before
   pub even : at % recordSize ≡ 0
   pub within : at ≤ length before
@@ -55,19 +63,19 @@ pub record MeasuredFrom (before t : List ℕ) (at : ℕ) : Type 0 where
   pub complete : Complete (records (drop at t))
   pub measured : Measured (records (drop at t))
 
-module _ {before : List ℕ} (w : Row 1 before) where
-  pub none-measured : MeasuredFrom before before (length before)
+module _ {before : List ℕ} where
+  pub none-measured : Row 1 before → length before ≤ recordSize * maxRecords → MeasuredFrom before before (length before)
   unfolding Complete Measured
-  none-measured =
+  none-measured w few =
       let e : records (drop (length before) before) ≡ [] = rw (drop-length before) (records-short [] (omega arith)) in
-      record { same = refl; even = w .even; within = omega arith; front = refl; trees = refl; complete = rw e tt; measured = rw e tt }
+      record { whole = w; few = few; same = refl; even = w .even; within = omega arith; front = refl; trees = refl; complete = rw e tt; measured = rw e tt }
 
   pub all-measured : {t : List ℕ} {at : ℕ} → MeasuredFrom before t at → at ≤ 0 → Run 1 t × (tree t ≡ tree before)
   unfolding tree
   all-measured {t} {at} a h =
       let z : at ≡ 0 = omega arith in
       let b : MeasuredFrom before t 0 = rw z at a in
-      (record { row = record { even = omega (arith, w .even, b .same); complete = b .complete; enough = rw (b .trees) (w .enough) }; measured = b .measured }, ap firstOf (b .trees))
+      (record { row = record { even = omega (arith, b .whole .even, b .same); complete = b .complete; enough = rw (b .trees) (b .whole .enough) }; measured = b .measured }, ap firstOf (b .trees))
 
   -- one turn: the record at p, and what stands from `at` on
   module _ {t : List ℕ} {at : ℕ} (a : MeasuredFrom before t at) (some : 0 < at) where
@@ -102,20 +110,22 @@ module _ {before : List ℕ} (w : Row 1 before) where
     count-fits =
         let h : recordSize ≤ length (drop (at - recordSize) before) = omega (arith, long, a .within, length-drop (at - recordSize) before) in
         let k : at - recordSize ≡ recordSize * ((at - recordSize) / recordSize) = omega (arith, a .even, long) in
-        let c : Complete (records (drop (at - recordSize) before)) = rw (k, records-drop ((at - recordSize) / recordSize) before) (complete-drop ((at - recordSize) / recordSize) (records before) (w .complete)) in
+        let c : Complete (records (drop (at - recordSize) before)) = rw (k, records-drop ((at - recordSize) / recordSize) before) (complete-drop ((at - recordSize) / recordSize) (records before) (a .whole .complete)) in
         let d : Complete (recordAt (drop (at - recordSize) before) ∷ records (drop at before)) = rw (from-here before h) at c in
         rw (a .trees) (d .0)
 
     -- with the record there as it was, or with another leaf number where it is a group's
-    step : {after : List ℕ} (r : Record) → length after ≡ length t → take (at - recordSize) after ≡ take (at - recordSize) t → drop at after ≡ drop at t → recordAt (drop (at - recordSize) after) ≡ r
+    record-measured : {after : List ℕ} (r : Record) → length after ≡ length t → take (at - recordSize) after ≡ take (at - recordSize) t → drop at after ≡ drop at t → recordAt (drop (at - recordSize) after) ≡ r
         → headOf r ≡ headOf (recordAt (drop (at - recordSize) before)) → r .count ≡ recordAt (drop (at - recordSize) before) .count
         → (2 ≤ r .kind → r .leaf ≡ suc (sizeI (row (r .count) (drop at t)))) → MeasuredFrom before after (at - recordSize)
     unfolding Complete Measured decode build takeI sizeI
-    step {after} r same front back here head count size =
+    record-measured {after} r same front back here head count size =
         let h : recordSize ≤ length (drop (at - recordSize) before) = omega (arith, long, a .within, length-drop (at - recordSize) before) in
         let h′ : recordSize ≤ length (drop (at - recordSize) after) = omega (arith, long, a .within, a .same, same, length-drop (at - recordSize) after) in
         let rs : records (drop (at - recordSize) after) ≡ r ∷ records (drop at t) = from-here after h′ ∙ rw (here, back) in
         record {
+          whole = a .whole;
+          few = a .few;
           same = same ∙ a .same;
           even = omega (arith, a .even, long);
           within = omega (arith, a .within);
@@ -130,7 +140,7 @@ module _ {before : List ℕ} (w : Row 1 before) where
 
     -- a leaf's record stays as it is
     pub leaf-measured : getD t (at - recordSize + atKind) 0 < 2 → MeasuredFrom before t (at - recordSize)
-    leaf-measured n = step (recordAt (drop (at - recordSize) t)) refl refl refl refl (ap headOf record-same) (ap (λ (r : Record). r .count) record-same) (λ g. absurd (omega (arith, n, g, kind-is)))
+    leaf-measured n = record-measured (recordAt (drop (at - recordSize) t)) refl refl refl refl (ap headOf record-same) (ap (λ (r : Record). r .count) record-same) (λ g. absurd (omega (arith, n, g, kind-is)))
 
     -- a group of `count` items, whose bytes are handed on as `&t[at + RECORD_SIZE..]`
     module _ {count : ℕ} (c : count ≡ recordAt (drop (at - recordSize) t) .count) where
@@ -143,7 +153,7 @@ module _ {before : List ℕ} (w : Row 1 before) where
       pub items-measured : Run count Rest
       items-measured =
           let e : count ≡ recordAt (drop (at - recordSize) before) .count = c ∙ ap (λ (r : Record). r .count) record-same in
-          rw rest-is (record { row = record { even = omega (arith, w .even, a .same, a .even, a .within, length-drop at t); complete = a .complete; enough = rw e count-fits }; measured = a .measured })
+          rw rest-is (record { row = record { even = omega (arith, a .whole .even, a .same, a .even, a .within, length-drop at t); complete = a .complete; enough = rw e count-fits }; measured = a .measured })
 
       -- whose items take n bytes
       module _ {n : ℕ} (e : n ≡ recordSize * sizeI (row count Rest)) where
@@ -152,13 +162,13 @@ module _ {before : List ℕ} (w : Row 1 before) where
             let f : n ≡ recordSize * sizeI (row count (drop at t)) = rw rest-is at e in
             rw (← c) (omega (arith, f))
 
-        pub size-fits : length before ≤ recordSize * maxRecords → n / recordSize + 1 ≤ maxRecords
+        pub size-fits : n / recordSize + 1 ≤ maxRecords
         unfolding decode
-        size-fits few = omega (arith, size-is, sizeI-split (recordAt (drop (at - recordSize) t) .count) (build (records (drop at t))), sizeI-build (records (drop at t)), length-records (drop at t), length-drop at t, a .same, long, few)
+        size-fits = omega (arith, size-is, sizeI-split (recordAt (drop (at - recordSize) t) .count) (build (records (drop at t))), sizeI-build (records (drop at t)), length-records (drop at t), length-drop at t, a .same, long, a .few)
 
         pub group-measured : 2 ≤ getD t (at - recordSize + atKind) 0 → MeasuredFrom before (set t (at - recordSize + atLeaf) (n / recordSize + 1)) (at - recordSize)
         group-measured g =
             let v = n / recordSize + 1 in
-            step (withLeaf (recordAt (drop (at - recordSize) t)) v) (length-set t (at - recordSize + atLeaf) v) (take-set-le (at - recordSize) t (at - recordSize + atLeaf) v (omega arith)) (drop-set-lt at t (at - recordSize + atLeaf) v (omega (arith, long)))
+            record-measured (withLeaf (recordAt (drop (at - recordSize) t)) v) (length-set t (at - recordSize + atLeaf) v) (take-set-le (at - recordSize) t (at - recordSize + atLeaf) v (omega arith)) (drop-set-lt at t (at - recordSize + atLeaf) v (omega (arith, long)))
             (ap recordAt (drop-set-add (at - recordSize) t atLeaf v) ∙ leaf-stored (drop (at - recordSize) t) v record-long)
             (group-head (recordAt (drop (at - recordSize) t)) v (omega (arith, g, kind-is)) ∙ ap headOf record-same) (ap (λ (r : Record). r .count) record-same) (λ _. size-is)

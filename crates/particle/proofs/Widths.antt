@@ -4,7 +4,7 @@ use Prim.Native.Nat.{ℕ, zero, suc, _+_, _/_, _^_, _<_}
 use native.Mathlib.Omega.{arith}
 use lib.ListN.{length, drop}
 use Rattle.particle.specs.declared.Record.{Record}
-use Rattle.particle.specs.Record.{recordSize, recordBytes, word, wordBytes}
+use Rattle.particle.specs.Record.{recordSize, atKind, atLeaf, atCount, atUnbounded, atMin, atMax, recordBytes, word, wordBytes}
 use Rattle.particle.specs.Tree.{records, recordsN}
 use Rattle.particle.specs.Encode.{joined, Bytes}
 use Rattle.particle.proofs.RoundTrip.{byte-at, bytes-drop}
@@ -31,7 +31,7 @@ widths-from : (n : ℕ) (t : List ℕ) → Bytes t → Widths (recordsN n t)
 unfolding Widths recordsN
 widths-from zero t b = tt
 widths-from (suc n) t b = (
-  record { kind = byte-at t b 0; leaf = byte-at t b 1; count = byte-at t b 2; unbounded = byte-at t b 3; min = word-width t b 4; max = word-width t b 8 },
+  record { kind = byte-at t b atKind; leaf = byte-at t b atLeaf; count = byte-at t b atCount; unbounded = byte-at t b atUnbounded; min = word-width t b atMin; max = word-width t b atMax },
   widths-from n (drop recordSize t) (bytes-drop recordSize t b),
 )
 

@@ -11,10 +11,6 @@ use Rattle.particle.specs.declared.Record.{Record}
 abbrev pub recordSize : ℕ
 recordSize = 12
 
--- a tree has at most so many records
-abbrev pub maxRecords : ℕ
-maxRecords = 255
-
 -- where its fields start
 abbrev pub atKind : ℕ
 atKind = 0
@@ -33,6 +29,10 @@ atMin = 4
 
 abbrev pub atMax : ℕ
 atMax = 8
+
+-- a tree has at most so many records: the most that a count of one byte can tell
+abbrev pub maxRecords : ℕ
+maxRecords = 255
 
 -- the 32-bit number at byte i, little-endian
 abbrev pub word : List ℕ → ℕ → ℕ

@@ -29,7 +29,7 @@ const AT_MIN: usize = 4;
 
 const AT_MAX: usize = 8;
 
-// A tree has at most so many records.
+// A tree has at most so many records: the most that a count of one byte can tell.
 pub const MAX_RECORDS: usize = 255;
 
 pub const ELEMENT: u8 = 0;

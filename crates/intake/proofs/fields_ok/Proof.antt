@@ -1,19 +1,24 @@
 -- `intake::fields_ok` meets its contract. Assumes nothing.
-use mathlib.Core.Path.{sym, _∙_}
+use mathlib.Core.Path.{_≡_, sym, _∙_}
+use mathlib.Core.Bool.{Bool, true, false}
+use Prim.Native.Nat.{_≤_, _<_}
 use borrow.Author.Needs.{needs}
 use borrow.Author.Tests.{le-leb, lt-leb}
+use Rattle.particle.specs.declared.Record.{Record}
+use Rattle.intake.specs.Faults.{Known, leafOk, boundOk, fieldsOk}
 use Rattle.intake.proofs.fields_ok.Statement.{statement}
 use Rattle.intake.proofs.fields_ok.Tie as tie
 
-returns : tie.Need-returns
-returns c = rw (le-leb _ _ (c .before .before .before .if1 .taken), sym (c .before .before .leaf-ok .ensures) ∙ c .before .if2 .taken) (c .bound-ok .ensures)
+module _ (known : Known) (r : Record) where
+  no-kind : 4 < r .kind → false ≡ fieldsOk known r
+  no-kind k = rw (lt-leb _ _ k)
 
-returns-2 : tie.Need-returns-2
-returns-2 c = rw (le-leb _ _ (c .before .before .if1 .taken), sym (c .before .leaf-ok .ensures) ∙ c .if2 .left)
+  module _ (k : r .kind ≤ 4) {b : Bool} (e : b ≡ leafOk known r) where
+    leaf-right : {x : Bool} → b ≡ true → x ≡ boundOk r → x ≡ fieldsOk known r
+    leaf-right t x = rw (le-leb _ _ k, sym e ∙ t) x
 
-returns-3 : tie.Need-returns-3
-returns-3 c = rw (lt-leb _ _ (c .if1 .left))
+    leaf-wrong : b ≡ false → false ≡ fieldsOk known r
+    leaf-wrong f = rw (le-leb _ _ k, sym e ∙ f)
 
 pub fields-ok-spec : {M : Type 1} → statement M
-fields-ok-spec =
-    tie.close (tie.spec (λ c κs. search needs) (λ c κs. search needs) returns returns-2 returns-3)
+fields-ok-spec = tie.close (tie.spec (λ c κs. search needs) (λ c κs. search needs) (λ c. search leaf-right) (λ c. search leaf-wrong) (λ c. search no-kind))

@@ -1,82 +1,75 @@
 -- `intake::scan` meets its contract. Assumes nothing.
-use mathlib.Core.Path.{_≡_, refl, ap, sym, _∙_}
+use mathlib.Core.Path.{_≡_, refl, ap, sym}
 use mathlib.Core.List.{_∷_}
+use Prim.Native.Nat.{_<_}
 use native.Mathlib.Omega.{arith}
 use borrow.Author.Needs.{needs}
 use borrow.Author.Tests.{ltb-true, ltb-false}
 use lib.ListN.{length}
 use Rattle.particle.specs.Tree.{records}
 use Rattle.particle.proofs.Records.{records-cons, records-short, length-records}
+use Rattle.intake.specs.declared.Checked.{Checked}
+use Rattle.intake.specs.declared.Checked.the-variants.{Accepted}
 use Rattle.intake.specs.Scan.{listed}
-use Rattle.intake.proofs.Scanning.{Scanning, start, close, whole, too-few, too-many, fault, leaf, low, group}
+use Rattle.intake.proofs.Scanning.{Scanning, Between, Judged, judged-as, start, close, between-open, between-top, whole, too-few, too-many, fault, leaf, low, group}
 use Rattle.intake.proofs.scan.Statement.{statement}
 use Rattle.intake.proofs.scan.Tie as tie
 
--- inside a turn: the innermost group may have its items
 abbrev Inv-loop2 : tie.InvT-loop2
 Inv-loop2 t kinds left₀ in-all₀ outer above₀ rest left in-all above = Scanning (listed kinds) (records t) left in-all outer above (records rest)
 
 abbrev μ-loop2 : tie.MeasureT-loop2
 μ-loop2 t kinds left₀ in-all₀ outer above₀ rest left in-all above = above
 
--- between turns: it has them only where no group is above it
 abbrev Inv-loop : tie.InvT-loop
-Inv-loop t kinds left₀ in-all₀ outer₀ above₀ rest₀ left in-all outer above rest = Scanning (listed kinds) (records t) left in-all outer above (records rest) × (left ≡ 0 → above ≡ 0)
+Inv-loop t kinds left₀ in-all₀ outer₀ above₀ rest₀ left in-all outer above rest = Between (listed kinds) (records t) left in-all outer above (records rest)
 
 abbrev μ-loop : tie.MeasureT-loop
 μ-loop t kinds left₀ in-all₀ outer₀ above₀ rest₀ left in-all outer above rest = length (records rest)
 
-loop-holds : tie.Need-loop-holds Inv-loop2 μ-loop2 Inv-loop μ-loop
-loop-holds c = (start _ _ _ refl, λ z. refl)
+-- The places that the answers speak of: a record is taken, its own first fault is found, there is none.
+abbrev Taken : Type 0
+Taken = tie.After-skip Inv-loop2 μ-loop2 Inv-loop μ-loop
 
-skip-requires : tie.Need-skip-requires Inv-loop2 μ-loop2 Inv-loop μ-loop
-skip-requires c κs = omega (arith, length-records (c .before .before .loop .rest .now))
+abbrev Found : Type 0
+Found = tie.After-fault-of Inv-loop2 μ-loop2 Inv-loop μ-loop
+
+abbrev Clean : Type 0
+Clean = tie.After-enum-told Inv-loop2 μ-loop2 Inv-loop μ-loop
+
+abbrev taken : Found → Taken
+taken c = c .before .before
+
+abbrev found : Clean → Found
+found c = c .before .before
 
 -- the record that is taken, and those that are left
-turn : (c : tie.After-skip Inv-loop2 μ-loop2 Inv-loop μ-loop) → records (c .before .before .before .loop .rest .now) ≡ c .before .record-at .result ∷ records (c .skip .result .now)
-turn c = rw (c .before .record-at .ensures, c .skip .ensures, records-cons (c .before .before .before .loop .rest .now) (c .before .before .loop-test .taken))
+starts : (c : Taken) → records (c .before .before .before .loop .rest .now) ≡ c .before .record-at .result ∷ records (c .skip .result .now)
+starts c = rw (c .before .record-at .ensures, c .skip .ensures, records-cons (c .before .before .before .loop .rest .now) (c .before .before .loop-test .taken))
 
-returns : tie.Need-returns Inv-loop2 μ-loop2 Inv-loop μ-loop
-returns c = too-many (c .before .before .before .before .loop .inv .0) (turn (c .before)) (c .if1 .taken) (c .before .before .before .before .loop .inv .1 (c .if1 .taken))
+fewer : (c : Taken) → length (records (c .skip .result .now)) < length (records (c .before .before .before .loop .rest .now))
+fewer c = omega (arith, ap length (starts c))
 
-returns-2 : tie.Need-returns-2 Inv-loop2 μ-loop2 Inv-loop μ-loop
-returns-2 c = fault (c .before .before .before .before .before .before .before .before .loop .inv .0) (turn (c .before .before .before .before .before)) (c .before .before .before .before .if1 .left) (sym (c .before .before .before .fault-of .ensures) ∙ c .before .f .given .1)
+abbrev BetweenAt : Taken → Type 0
+BetweenAt c =
+    let l = c .before .before .before in
+    let a = l .before .before .before .args in
+    Between (listed (a .kinds .now)) (records (a .t .now)) (l .loop .left) (l .loop .in-all) (l .loop .outer) (l .loop .above) (c .before .record-at .result ∷ records (c .skip .result .now))
 
-array-write-outer : tie.Need-array-write-outer Inv-loop2 μ-loop2 Inv-loop μ-loop
-array-write-outer c = omega (arith, low (c .before .before .before .before .before .before .before .before .before .loop .inv .0) (turn (c .before .before .before .before .before .before)) (c .before .before .before .before .before .if1 .left) (sym (c .before .before .before .before .fault-of .ensures) ∙ c .before .before .enum-told .given .1))
+between : (c : Taken) → BetweenAt c
+between c = rw (starts c) at (c .before .before .before .loop .inv)
 
-loop-less : tie.Need-loop-less Inv-loop2 μ-loop2 Inv-loop μ-loop
-loop-less c = omega (arith, ap length (turn (c .before .before .before .before .before .before .before)))
+abbrev JudgedAs : Taken → Checked → Type 0
+JudgedAs c answer =
+    let l = c .before .before .before in
+    let a = l .before .before .before .args in
+    Judged (listed (a .kinds .now)) (records (a .t .now)) (l .loop .left) (l .loop .in-all) (l .loop .outer) (l .loop .above) (c .before .record-at .result) (records (c .skip .result .now)) answer
 
-loop-again : tie.Need-loop-again Inv-loop2 μ-loop2 Inv-loop μ-loop
-loop-again c = (group (c .before .before .before .before .before .before .before .before .before .before .loop .inv .0) (turn (c .before .before .before .before .before .before .before)) (c .before .before .before .before .before .before .if1 .left) (sym (c .before .before .before .before .before .fault-of .ensures) ∙ c .before .before .before .enum-told .given .1) (c .before .if2 .taken), λ z. absurd (c .before .if2 .taken z))
+judged : (c : Found) → JudgedAs (taken c) (c .fault-of .result)
+judged c = record { between = between (taken c); awaits = search; own = sym (c .fault-of .ensures) }
 
-loop2-holds : tie.Need-loop2-holds Inv-loop2 μ-loop2 Inv-loop μ-loop
-loop2-holds c = leaf (c .before .before .before .before .before .before .before .before .before .loop .inv .0) (turn (c .before .before .before .before .before .before)) (c .before .before .before .before .before .if1 .left) (sym (c .before .before .before .before .fault-of .ensures) ∙ c .before .before .enum-told .given .1) (c .if2 .left)
-
-loop-less-2 : tie.Need-loop-less-2 Inv-loop2 μ-loop2 Inv-loop μ-loop
-loop-less-2 c = omega (arith, ap length (turn (c .before .before .before .before .before .before .before .before .before)))
-
-loop-again-2 : tie.Need-loop-again-2 Inv-loop2 μ-loop2 Inv-loop μ-loop
-loop-again-2 c = (c .before .before .loop2 .inv, λ z. omega (arith, ltb-false 0 (c .before .before .loop2 .above) (c .if3 .left)))
-
-loop-less-3 : tie.Need-loop-less-3 Inv-loop2 μ-loop2 Inv-loop μ-loop
-loop-less-3 c = omega (arith, ap length (turn (c .before .before .before .before .before .before .before .before)))
-
-loop-again-3 : tie.Need-loop-again-3 Inv-loop2 μ-loop2 Inv-loop μ-loop
-loop-again-3 c = (c .before .loop2 .inv, λ z. absurd (c .loop2-test .left z))
-
-loop2-less : tie.Need-loop2-less Inv-loop2 μ-loop2 Inv-loop μ-loop
-loop2-less c = omega (arith, ltb-true)
-
-loop2-again : tie.Need-loop2-again Inv-loop2 μ-loop2 Inv-loop μ-loop
-loop2-again c = close (c .before .before .loop2 .inv) (c .before .loop2-test .taken) (ltb-true _ _ (c .if3 .taken))
-
-returns-3 : tie.Need-returns-3 Inv-loop2 μ-loop2 Inv-loop μ-loop
-returns-3 c = whole (c .before .before .loop .inv .0) (records-short _ (c .before .loop-test .left)) (c .if4 .taken) (c .before .before .loop .inv .1 (c .if4 .taken))
-
-returns-4 : tie.Need-returns-4 Inv-loop2 μ-loop2 Inv-loop μ-loop
-returns-4 c = too-few (c .before .before .loop .inv .0) (records-short _ (c .before .loop-test .left)) (c .if4 .left)
+accepted : (c : Clean) → JudgedAs (taken (found c)) Accepted
+accepted c = judged-as (judged (found c)) (c .enum-told .given .1)
 
 pub scan-spec : {M : Type 1} → statement M
 scan-spec =
@@ -86,28 +79,28 @@ scan-spec =
     μ-loop2
     Inv-loop
     μ-loop
-    loop-holds
+    (λ c. start _ _ _ refl)
     (λ c κs. search needs)
-    skip-requires
-    returns
+    (λ c κs. omega (arith, length-records (c .before .before .loop .rest .now)))
+    (λ c. too-many (between (c .before)) (search))
     (λ c. search needs)
     (λ c κs. search needs)
     (λ c. search needs)
-    returns-2
+    (λ c. fault (judged-as (judged (c .before .before .before)) (c .before .f .given .1)))
     (λ c. search needs)
     (λ c. search needs)
-    array-write-outer
+    (λ c. low (accepted (c .before .before)))
     (λ c. search needs)
-    loop-less
-    loop-again
-    loop2-holds
-    loop-less-2
-    loop-again-2
-    loop-less-3
-    loop-again-3
+    (λ c. search fewer)
+    (λ c. group (accepted (c .before .before .before)) (search))
+    (λ c. leaf (accepted (c .before .before)) (search))
+    (λ c. search fewer)
+    (λ c. search (between-top, ltb-false))
+    (λ c. search fewer)
+    (λ c. search between-open)
     (λ c. search needs)
     (λ c. search needs)
-    loop2-less
-    loop2-again
-    returns-3
-    returns-4)
+    (λ c. omega (arith, ltb-true))
+    (λ c. close (c .before .before .loop2 .inv) (search) (search ltb-true))
+    (λ c. search (whole, records-short))
+    (λ c. search (too-few, records-short)))

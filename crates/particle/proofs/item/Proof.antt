@@ -1,43 +1,24 @@
 -- `particle::item` meets its contract. Assumes nothing.
-use mathlib.Core.Path.{_≡_, ap, _∙_}
-use Prim.Native.Nat.{ℕ, _-_, _+_, _≤_}
+use mathlib.Core.Path.{ap}
+use Prim.Native.Nat.{ℕ, _+_}
 use native.Mathlib.Omega.{arith}
 use borrow.Author.Needs.{needs}
-use lib.ListN.{length, take, drop, length-drop}
-use Rattle.particle.specs.Rows.{runSize, itemRun}
-use Rattle.particle.proofs.Laws.{part-is, run-within}
+use Rattle.particle.proofs.ItemWalk.{item-whole, item-within, item-is}
 use Rattle.particle.proofs.item.Statement.{statement}
 use Rattle.particle.proofs.item.Tie as tie
 
-run-len-requires : tie.Need-run-len-requires
-run-len-requires c κs = rw (part-is (c .before .before .before .args .t .now) (c .before .item-start .result)) (c .before .item-start .ensures .whole)
-
--- the run that starts there
-run : (c : tie.After-run-len) → c .run-len .result ≡ runSize (drop (c .before .before .item-start .result) (c .before .before .before .before .args .t .now))
-run c = c .run-len .ensures ∙ ap runSize (part-is (c .before .before .before .before .args .t .now) (c .before .before .item-start .result))
-
-within : (c : tie.After-run-len) → c .before .before .item-start .result + c .run-len .result ≤ length (c .before .before .before .before .args .t .now)
-within c =
-    let t = c .before .before .before .before .args .t .now in
-    let at = c .before .before .item-start .result in
-    omega (arith, run c, run-within (drop at t), length-drop at t, c .before .before .item-start .ensures .within)
-
-add-end : tie.Need-add-end
-add-end c = omega (arith, within c)
-
-part-result-end : tie.Need-part-result-end
-part-result-end c = within c
+-- where the item starts is known
+abbrev placed : tie.After-run-len → tie.After-item-start
+placed c = c .before .before
 
 returns : tie.Need-returns
-unfolding itemRun
 returns c =
-    let a = c .before .before .before .before .before .args in
-    let at = c .before .before .before .item-start .result in
-    let s = c .before .before .before .item-start .ensures .start in
-    let e : at + c .before .run-len .result - at ≡ runSize (drop at (a .t .now)) = omega (arith, run (c .before)) in
+    let r = c .before in
+    let i = placed r .item-start .ensures in
+    let t = placed r .before .before .args .t in
     record {
-      holds = ap (λ (n : ℕ). take n (drop at (a .t .now))) e ∙ ap (λ (n : ℕ). take (runSize (drop n (a .t .now))) (drop n (a .t .now))) s;
-      place = ap {B = ℕ × ℕ} (λ (n : ℕ). (a .t .ptr .0, n + a .t .ptr .1)) s;
+      holds = item-is i (r .run-len .ensures);
+      place = ap {B = ℕ × ℕ} (λ (n : ℕ). (t .ptr .0, n + t .ptr .1)) (i .start);
     }
 
 pub item-spec : {M : Type 1} → statement M
@@ -48,9 +29,9 @@ item-spec =
     (λ c. search needs)
     (λ c. search needs)
     (λ c. search needs)
-    run-len-requires
-    add-end
+    (λ c κs. item-whole (c .before .item-start .ensures))
+    (λ c. omega (arith, item-within (placed c .item-start .ensures) (c .run-len .ensures)))
     (λ c. search needs)
     (λ c. search needs)
-    part-result-end
+    (λ c. item-within (placed c .item-start .ensures) (c .run-len .ensures))
     returns)
