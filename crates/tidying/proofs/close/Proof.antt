@@ -13,7 +13,7 @@ returns : tie.Need-returns
 returns c before x l n a =
     let d = c .before .before .before .before in
     let p = d .before .before .before .before .before in
-    takes-place (p .args .g) (p .pre .0) (p .args .kept) (p .args .at) l n a (d .before .before .if1 .taken) (sym (d .before .once .ensures) ∙ d .if2 .taken)
+    takes-place (p .args .g) (p .pre .faithful) (p .args .kept) (p .args .at) l n a (d .before .before .if1 .taken) (sym (d .before .once .ensures) ∙ d .if2 .taken)
     (c .before .before .remove-record .ensures)
 
 returns-2 : tie.Need-returns-2
@@ -21,7 +21,7 @@ returns-2 c before x l n a =
     let d = c .before .before .before .before .before .before .before .before in
     let f = d .before .before .before .before .before in
     let p = f .before .before .before .before .before in
-    takes-pair (p .args .g) (p .pre .0) (p .args .kept) (p .args .at) l n a (f .before .before .if1 .taken)
+    takes-pair (p .args .g) (p .pre .faithful) (p .args .kept) (p .args .at) l n a (f .before .before .if1 .taken)
     (sym (f .before .once .ensures) ∙ f .if2 .left)
     (d .before .before .record-at .result)
     (d .before .before .record-at .ensures ∙ ap recordAt (part-is (p .args .out .now) (p .args .at + recordSize)))
@@ -35,9 +35,9 @@ returns-3 c before x l n a =
     let p = d .before .before .before in
     let e = c .before .before .write-record2 .ensures in
     ⊎-elim
-    (λ v. stays (p .args .g) (p .pre .0) (p .args .kept) (p .args .at) l n a (v .0 .taken) (sym (v .1 .ensures) ∙ v .2 .left)
+    (λ v. stays (p .args .g) (p .pre .faithful) (p .args .kept) (p .args .at) l n a (v .0 .taken) (sym (v .1 .ensures) ∙ v .2 .left)
     (v .5 .result) (v .5 .ensures ∙ ap recordAt (part-is (p .args .out .now) (p .args .at + recordSize))) (sym (v .6 .ensures) ∙ v .7 .left) e)
-    (λ v. many (p .args .g) (p .pre .0) (p .args .kept) (p .args .at) l n a (v .left) e)
+    (λ v. many (p .args .g) (p .pre .faithful) (p .args .kept) (p .args .at) l n a (v .left) e)
     (d .if1 .came)
 
 pub close-spec : {M : Type 1} → statement M
