@@ -4,6 +4,8 @@ use mathlib.Core.List.{List, [], _++_, append-nil, append-assoc}
 use Prim.Native.Nat.{ℕ, _+_, _-_, _≤_}
 use native.Mathlib.Omega.{arith}
 use borrow.Rule.Slice.PartMut.{midOf, postOf, putMid, mid-len}
+use mir.Syntax.{w64}
+use mir.Val.{Fits}
 use lib.ListN.{length, take, drop, length-append, drop-of-length-le}
 use lib.Seq.{length-take-le, take-length, take-at}
 use Rattle.particle.specs.Rows.{row, runSize}
@@ -15,6 +17,9 @@ use Rattle.tidying.specs.Laid.{Room, Laid}
 module _ {t out : List ℕ} {at : ℕ} (q : Room t 1 out at) {n : ℕ} (e : n ≡ runSize t) where
   pub in-out : at + n ≤ length out
   in-out = omega (arith, q .room, run-is t)
+
+  pub end-fits : Fits w64 (at + n)
+  end-fits = omega (arith, in-out, q .small)
 
   pub run-length : n ≡ length (take n t)
   run-length = sym (length-take-le n t (rw e (run-within t)))

@@ -118,7 +118,7 @@ module _ {g : Record} {t before : List ℕ} {at : ℕ} {out : List ℕ} {count e
           → ItemsLeft g t before at after (k .count) (k .end) (read + x .read) next (left - 1)
       unfolding tidyItems tidy
       item-read {after} {k} {next} same same′ f n =
-          let b = f out (tidy (tree rest)) (items-stand .within) (w .laid) in
+          let b = f .keeps out (tidy (tree rest)) (items-stand .within) (w .laid) in
           let y = keep (headOf g) (tidy (tree rest)) none in
           let p : next ≡ laterPart rest = n ∙ (part-is rest (x .read) ∙ ap (λ (i : ℕ). drop i rest) (w .read)) in
           let m : keep (headOf g) (tidy (tree rest)) (tidyItems (headOf g) (row (left - 1) (laterPart rest))) ≡ y then tidyItems (headOf g) (row (left - 1) (laterPart rest)) = keep-then (headOf g) (tidy (tree rest)) _ in

@@ -39,10 +39,9 @@ pub record ItemStands (out : List ℕ) (start end count : ℕ) : Type 0 where
   pub few : count ≤ maxRecords
 
 -- r is what the group g keeps: `count` items, and what it keeps of the item from `start` to `end`
-abbrev pub KeepsAfter : (g : Record) (out after : List ℕ) (start end count : ℕ) (r : Kept) → Type 0
-KeepsAfter g out after start end count r =
-    (before : List ℕ) (x : Particle) → start ≤ length before → Laid before out start end (single x)
-    → Laid before after start (r .end) (keep (headOf g) x none) × (r .count ≡ count + countI (keep (headOf g) x none))
+pub record KeepsAfter (g : Record) (out after : List ℕ) (start end count : ℕ) (r : Kept) : Type 0 where
+  pub keeps : (before : List ℕ) (x : Particle) → start ≤ length before → Laid before out start end (single x)
+      → Laid before after start (r .end) (keep (headOf g) x none) × (r .count ≡ count + countI (keep (headOf g) x none))
 
 -- the items that g keeps stand in out after a place at `at` for g's record
 pub record ItemsStand (g : Record) (kept : Kept) (out : List ℕ) (at : ℕ) : Type 0 where
