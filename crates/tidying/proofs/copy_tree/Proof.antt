@@ -1,15 +1,8 @@
 -- `tidying::copy_tree` meets its contract. Assumes nothing.
-use native.Mathlib.Omega.{arith}
 use borrow.Author.Needs.{needs}
-use Rattle.particle.proofs.EncodeParts.{bytes-from}
 use Rattle.tidying.proofs.CopyStep.{in-out, end-fits, run-length, run-fits, copied}
 use Rattle.tidying.proofs.copy_tree.Statement.{statement}
 use Rattle.tidying.proofs.copy_tree.Tie as tie
-
-returns : tie.Need-returns
-returns c =
-    let known = c .before .before .before .before .before .before .before in
-    record { read = search needs; laid = search (copied, bytes-from (known .before .args .t .now) (λ i. omega (arith, known .shared-slice-known .given i))) }
 
 pub copy-tree-spec : {M : Type 1} → statement M
 copy-tree-spec =
@@ -23,4 +16,4 @@ copy-tree-spec =
     (λ c. search in-out)
     (λ c κs. search run-fits)
     (λ c. search needs)
-    returns)
+    (λ c. record { read = search needs; laid = search copied }))
