@@ -33,12 +33,12 @@ pub by-kinds-closed : {M : Type 1} (t : ℕ) → lts.Closed (by-kinds-calls t) (
 unfolding rule
 by-kinds-closed t =
     lts.spec (by-kinds-calls t) (by-kinds-at t) reads.Post
-    (λ c κs. some-bytes (c .before .before .before .before .pre .1 .0 .row))
-    (λ c κs. some-bytes (c .before .before .before .before .before .pre .1 .1 .row))
+    (λ c κs. search (some-bytes {n = 0}))
+    (λ c κs. search (some-bytes {n = 0}))
     (λ c κs. search needs)
     (λ c κs. search needs)
-    (λ c κs. c .before .before .before .before .before .before .before .before .pre .1 .0 .row)
-    (λ c κs. c .before .before .before .before .before .before .before .before .before .pre .1 .1 .row)
+    (λ c κs. search needs)
+    (λ c κs. search needs)
     (λ c. search needs)
     (λ c. search needs)
     (λ c κs. search needs)
