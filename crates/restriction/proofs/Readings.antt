@@ -107,7 +107,7 @@ module _ (J : Judge) (b : Items) (p q : Occurs) {d : List ℕ} {once : Bool} (w 
   pub once-choice-out-reads : {m : Mark} {ok : Bool} → m ≡ alternatives J 106 (asOnce once (tree d)) b → ok ≡ rangeOk p q → ok ≡ false → m ≡ Choice
   once-choice-out-reads a e n = a ∙ once-choice-out (sym e ∙ n)
 
--- two readings, of which the second fails or is read where the base's minimum n is above 1 or not
+-- two readings as the code takes them: a is what the first gave, m what both come to, n the base's minimum
 pub first-passes : {v : Verdict} {first : Mark} (second : Mark) → markOf v ≡ first → v ≡ Ok → passes ≡ combineReadings first second
 first-passes second a q = rw (← a, q)
 

@@ -16,7 +16,7 @@ use Rattle.particle.proofs.Heads.{pair-record}
 use Rattle.particle.proofs.RoundTrip.{head-record}
 use Rattle.tidying.specs.declared.Kept.{Kept}
 use Rattle.tidying.specs.Tidy.{takesPair, lone, closed}
-use Rattle.tidying.specs.Laid.{Laid, Removed, ItemsStand}
+use Rattle.tidying.specs.Laid.{Laid, Removed, KeptStand}
 use Rattle.tidying.proofs.Steps.{takes-cases}
 use Rattle.tidying.proofs.LaidTrees.{laid-over, laid-within, laid-before, laid-long, laid-record, laid-open, laid-moved, laid-write}
 
@@ -50,7 +50,7 @@ paired h g = record { kind = h .kind; leaf = h .leaf; count = h .count; unbounde
 is-choice : (g h : Head) → takesPair g h ≡ true → h ≡ choice (pairOf h)
 is-choice = takes-cases (λ (g h : Head). h ≡ choice (pairOf h)) (λ q p e. refl)
 
-module _ {g : Record} {kept : Kept} {out : List ℕ} {at : ℕ} (s : ItemsStand g kept out at) {before : List ℕ} {x : Items}
+module _ {g : Record} {kept : Kept} {out : List ℕ} {at : ℕ} (s : KeptStand g kept out at) {before : List ℕ} {x : Items}
     (l : at + recordSize ≤ length before) (n : kept .count ≡ countI x) (a : Laid before out (at + recordSize) (kept .end) x) where
   -- what the group becomes is laid from `at` to r
   abbrev Closed : (after : List ℕ) (r : ℕ) → Type 0

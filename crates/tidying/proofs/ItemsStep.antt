@@ -1,6 +1,6 @@
 -- The loop of `tidy_items`: what is written after each item, and what is left to read. Assumes nothing.
 use mathlib.Core.Path.{_≡_, refl, ap, sym, _∙_}
-use mathlib.Core.Bool.{Bool, true, false, not}
+use mathlib.Core.Bool.{Bool, false, not}
 use mathlib.Core.List.{List}
 use Prim.Native.Nat.{ℕ, suc, _+_, _*_, _-_, _≤_, _<_}
 use native.Mathlib.Omega.{arith}
@@ -21,7 +21,7 @@ use Rattle.particle.proofs.RoundTrip.{then-none}
 use Rattle.tidying.specs.declared.Kept.{Kept}
 use Rattle.tidying.specs.declared.Written.{Written}
 use Rattle.tidying.specs.Tidy.{keep, closed, tidyItems, tidy, isTidied}
-use Rattle.tidying.specs.Laid.{tidied, Room, Laid, ItemStands, KeepsAfter, ItemsStand, Closes, Writes}
+use Rattle.tidying.specs.Laid.{tidied, Room, Laid, ItemStands, KeepsAfter, KeptStand, Closes, Writes}
 use Rattle.tidying.proofs.Sizes.{keep-smaller, tidy-smaller}
 use Rattle.tidying.proofs.LaidTrees.{laid-none, laid-then, laid-within, laid-long}
 use Rattle.tidying.proofs.KeepStep.{keep-then}
@@ -76,8 +76,8 @@ module _ {g : Record} {t before : List ℕ} {at : ℕ} {out : List ℕ} {count e
   out-small : length out ≤ recordSize * maxRecords
   out-small = omega (arith, a .place .small, a .same)
 
-  pub items-stand : ItemsStand g (record { count = count; end = end }) out at
-  items-stand =
+  pub kept-stand : KeptStand g (record { count = count; end = end }) out at
+  kept-stand =
       let l = countI-le (a .done) in
       record {
         faithful = record-is (a .place) (a .root);
@@ -105,7 +105,7 @@ module _ {g : Record} {t before : List ℕ} {at : ℕ} {out : List ℕ} {count e
     -- the item is written
     module _ {middle : List ℕ} {x : Written} (w : Writes rest out middle end (tidied rest) x) where
       pub item-stands : ItemStands middle end (x .end) count
-      item-stands = record { long = laid-long (items-stand .within) (w .laid); within = laid-within (items-stand .within) (w .laid); few = items-stand .few }
+      item-stands = record { long = laid-long (kept-stand .within) (w .laid); within = laid-within (kept-stand .within) (w .laid); few = kept-stand .few }
 
       fewer : sizeI (tidied rest) ≤ sizeI (row 1 rest)
       fewer = rw (row-one (row-le (omega arith) more)) (tidy-smaller (tree rest))
@@ -118,7 +118,7 @@ module _ {g : Record} {t before : List ℕ} {at : ℕ} {out : List ℕ} {count e
           → ItemsLeft g t before at after (k .count) (k .end) (read + x .read) next (left - 1)
       unfolding tidyItems tidy
       item-read {after} {k} {next} same same′ f n =
-          let b = f .keeps out (tidy (tree rest)) (items-stand .within) (w .laid) in
+          let b = f .keeps out (tidy (tree rest)) (kept-stand .within) (w .laid) in
           let y = keep (headOf g) (tidy (tree rest)) none in
           let p : next ≡ laterPart rest = n ∙ (part-is rest (x .read) ∙ ap (λ (i : ℕ). drop i rest) (w .read)) in
           let m : keep (headOf g) (tidy (tree rest)) (tidyItems (headOf g) (row (left - 1) (laterPart rest))) ≡ y then tidyItems (headOf g) (row (left - 1) (laterPart rest)) = keep-then (headOf g) (tidy (tree rest)) _ in

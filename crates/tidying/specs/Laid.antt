@@ -44,7 +44,7 @@ pub record KeepsAfter (g : Record) (out after : List ℕ) (start end count : ℕ
       → Laid before after start (r .end) (keep (headOf g) x none) × (r .count ≡ count + countI (keep (headOf g) x none))
 
 -- the items that g keeps stand in out after a place at `at` for g's record
-pub record ItemsStand (g : Record) (kept : Kept) (out : List ℕ) (at : ℕ) : Type 0 where
+pub record KeptStand (g : Record) (kept : Kept) (out : List ℕ) (at : ℕ) : Type 0 where
   pub faithful : recordOf (headOf g) (g .count) ≡ g
   pub long : at + recordSize + recordSize * kept .count ≤ kept .end
   pub within : kept .end ≤ length out

@@ -12,7 +12,7 @@ ghost use Rattle.particle.specs.Tree.{sizeI, headOf, records};
 ghost use Rattle.particle.specs.Rows.{Row, row};
 ghost use Rattle.particle.specs.Encode.{encode, Faithful};
 ghost use Rattle.tidying.specs.Tidy.{splices, takesPair, isTidied};
-ghost use Rattle.tidying.specs.Laid.{tidied, Room, Removed, ItemStands, KeepsAfter, ItemsStand, Closes, Writes, StartsWith};
+ghost use Rattle.tidying.specs.Laid.{tidied, Room, Removed, ItemStands, KeepsAfter, KeptStand, Closes, Writes, StartsWith};
 use particle::Record;
 
 // The length of the longest tree in bytes.
@@ -120,7 +120,7 @@ fn keep(g: Record, out: &mut [u8], start: usize, end: usize, count: usize) -> Ke
 
 // The group g at `at`, closed over the items that it keeps, which stand after the place of its record: answers where it ends.
 fn close(g: Record, kept: Kept, out: &mut [u8], at: usize) -> usize
-    requires { ⌜ ItemsStand g kept (now out) at ⌝ }
+    requires { ⌜ KeptStand g kept (now out) at ⌝ }
     ensures { λ r. ⌜ Closes g kept (now (out .entry)) (now (out .exit)) at r ⌝ }
 {
     let end = kept.end;

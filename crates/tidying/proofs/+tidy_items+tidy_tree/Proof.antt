@@ -1,4 +1,5 @@
--- `tidying::tidy_tree` and `tidy_items` meet their contracts. A call goes to a shorter part, or from a tree to its items. Assumes nothing.
+-- `tidying::tidy_tree` and `tidy_items` meet their contracts. A call goes to a shorter part, or from a tree to its items. Each answer names its law;
+-- `search` finds the facts that the law takes among those that are known at the place, so no answer counts steps. Assumes nothing.
 use Prim.Native.Nat.{ℕ, _+_, _*_, _<_}
 use native.Mathlib.Omega.{arith}
 use borrow.Author.Needs.{needs}
@@ -9,7 +10,7 @@ use Rattle.particle.proofs.items.Reads as items-reads
 use Rattle.particle.proofs.record_at.Reads as record-at-reads
 use Rattle.particle.proofs.write_record.Reads as write-record-reads
 use Rattle.particle.proofs.Laws.{some-bytes}
-use Rattle.tidying.proofs.ItemsStep.{ItemsLeft, none-read, items-stand, item-room, item-stands, read-within, read-fits, item-read, all-read, closes}
+use Rattle.tidying.proofs.ItemsStep.{ItemsLeft, none-read, kept-stand, item-room, item-stands, read-within, read-fits, item-read, all-read, closes}
 use Rattle.tidying.proofs.TreeStep.{record-fits, record-end-fits, bare, unaltered}
 use Rattle.tidying.proofs.tidy_items.Reads as tidy-items
 use Rattle.tidying.proofs.tidy_items.Kinds as tidy-items-kinds
@@ -76,7 +77,7 @@ pub +tidy-items+tidy-tree-spec : {M : Type 1} → statement M
     (λ c. omega arith)
     (λ c. omega arith)
     (λ c. search item-read)
-    (λ c κs. search items-stand)
+    (λ c κs. search kept-stand)
     (λ c. search needs)
     (λ c. record { read = search all-read; laid = search closes }))
     λ t. tidy-tree-lts.spec (tree-calls t) (tree-at t) tidy-tree.Post
