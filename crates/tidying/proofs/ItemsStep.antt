@@ -1,6 +1,6 @@
 -- The loop of `tidy_items`: what is written after each item, and what is left to read. Assumes nothing.
 use mathlib.Core.Path.{_≡_, refl, ap, sym, _∙_}
-use mathlib.Core.Bool.{Bool, false, not}
+use mathlib.Core.Bool.{Bool, true, false, not}
 use mathlib.Core.List.{List}
 use Prim.Native.Nat.{ℕ, suc, _+_, _*_, _-_, _≤_, _<_}
 use native.Mathlib.Omega.{arith}
@@ -36,6 +36,7 @@ then-assoc (item h k r) y z = ap (λ (s : Items). item h k s) (then-assoc r y z)
 -- the tree t with the record g is to be written from `at` on; `left` of its items are not yet read, from `rest` on, and those that are kept end at `end`
 pub record ItemsLeft (g : Record) (t before : List ℕ) (at : ℕ) (out : List ℕ) (count end read : ℕ) (rest : List ℕ) (left : ℕ) : Type 0 where
   pub root : g ≡ recordAt t
+  pub group : isTidied (headOf g) ≡ true
   pub place : Room t 1 before at
   pub done : Items
   pub laid : Laid before out (at + recordSize) end done
@@ -53,11 +54,12 @@ pub read-within : {t before out : List ℕ} {at : ℕ} {x : Items} {r : Written}
 read-within {t} w = omega (arith, w .read, run-within t)
 
 -- no item is read
-pub none-read : {g : Record} {t before : List ℕ} {at : ℕ} {s : List ℕ} → Room t 1 before at → g ≡ recordAt t → s ≡ itemsPart t
+pub none-read : {g : Record} {t before : List ℕ} {at : ℕ} {s : List ℕ} {b : Bool} → Room t 1 before at → g ≡ recordAt t → s ≡ itemsPart t → b ≡ isTidied (headOf g) → not b ≡ false
     → ItemsLeft g t before at before 0 (at + recordSize) recordSize s (g .count)
 unfolding countI _then_
-none-read {t = t} {before} {at} q e p = rw p (record {
+none-read {t = t} {before} {at} q e p y y′ = rw p (record {
   root = e;
+  group = sym y ∙ not-false _ y′;
   place = q;
   done = none;
   laid = laid-none before (at + recordSize);
@@ -124,6 +126,7 @@ module _ {g : Record} {t before : List ℕ} {at : ℕ} {out : List ℕ} {count e
           let m : keep (headOf g) (tidy (tree rest)) (tidyItems (headOf g) (row (left - 1) (laterPart rest))) ≡ y then tidyItems (headOf g) (row (left - 1) (laterPart rest)) = keep-then (headOf g) (tidy (tree rest)) _ in
           rw p (record {
             root = a .root;
+            group = a .group;
             place = a .place;
             done = a .done then y;
             laid = laid-then (a .laid) (b .0);
@@ -151,9 +154,9 @@ module _ {g : Record} {t before : List ℕ} {at : ℕ} {out : List ℕ} {count e
         let u : read + recordSize * sizeI none ≡ runSize t = rw last at (a .unread) in
         omega arith
 
-    pub closes : {after : List ℕ} {r : ℕ} {b : Bool} → b ≡ isTidied (headOf g) → not b ≡ false → Closes g (record { count = count; end = end }) out after at r → Laid before after at r (tidied t)
+    pub closes : {after : List ℕ} {r : ℕ} → Closes g (record { count = count; end = end }) out after at r → Laid before after at r (tidied t)
     unfolding tidyItems
-    closes y y′ c =
+    closes c =
         let d : tidyItems (headOf g) (row (g .count) (itemsPart t)) ≡ a .done = a .all ∙ (rw last (then-none (a .done))) in
-        let x : tidied t ≡ single (closed (headOf g) (a .done)) = tidied-group (a .place) (a .root) (sym y ∙ not-false _ y′) ∙ ap (λ (z : Items). single (closed (headOf g) z)) d in
+        let x : tidied t ≡ single (closed (headOf g) (a .done)) = tidied-group (a .place) (a .root) (a .group) ∙ ap (λ (z : Items). single (closed (headOf g) z)) d in
         rw x (c before (a .done) (record-fits (a .place) (a .root)) (a .counted) (a .laid))

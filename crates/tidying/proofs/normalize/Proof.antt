@@ -12,6 +12,6 @@ normalize-spec =
     (λ c κs. search needs)
     (λ c. search needs)
     (λ c. search part-length)
-    (λ c κs. search part-fits)
+    (λ c κs. search (part-fits, needs))
     (λ c. search needs)
     (λ c. (search records-written, search tree-written)))
