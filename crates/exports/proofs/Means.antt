@@ -2,22 +2,35 @@
 use mathlib.Core.Path.{_≡_, ap, sym, _∙_}
 use mathlib.Core.Bool.{Bool, cond}
 use mathlib.Core.List.{List, _++_}
-use Prim.Native.Nat.{ℕ, _≤_, _<_}
+use Prim.Native.Nat.{ℕ, _+_, _≤_, _<_}
 use borrow.Author.Tests.{le-leb, lt-leb}
 use lib.ListN.{length, take, drop}
 use lib.Seq.{take-all}
 use native.Mathlib.Nat.{le-refl}
+use Rattle.particle.specs.declared.MaxOccurs.{MaxOccurs}
+use Rattle.particle.specs.declared.MaxOccurs.the-variants.{Bounded, Unbounded}
 use Rattle.entries.specs.Answer.{Answer}
-use Rattle.exports.specs.Numbers.{written}
+use Rattle.exports.specs.Numbers.{beyond, maxOccursNumber, written}
 
--- the entry answered e, which means a
-pub number-of : {A E : Type 0} (meaning : E → Answer A) (number : Answer A → ℕ) {r e : E} {a : Answer A} → r ≡ e → meaning r ≡ a → number (meaning e) ≡ number a
-number-of meaning number g m = ap number (ap meaning (sym g) ∙ m)
+-- the entry answered e, which means a, and n is e's number
+pub number-of : {A E : Type 0} (meaning : E → Answer A) (number : Answer A → ℕ) {r e : E} {a : Answer A} {n : ℕ} → meaning r ≡ a → r ≡ e → n ≡ number (meaning e) → n ≡ number a
+number-of meaning number m g e = e ∙ ap number (ap meaning (sym g) ∙ m)
 
--- an item that fits was copied
-pub fits : (s out : List ℕ) → length s ≤ length out → take (length s) s ++ drop (length s) out ≡ written s out
-fits s out h = ap (λ (x : List ℕ). x ++ drop (length s) out) (take-all (length s) s (le-refl (length s))) ∙ sym (ap (λ (b : Bool). cond b (s ++ drop (length s) out) out) (le-leb _ _ h))
+pub sum-of : (b : ℕ) {n m : ℕ} → n ≡ m → b + n ≡ b + m
+sum-of b e = ap (λ (x : ℕ). b + x) e
 
--- one that does not fit was not
-pub too-long : (s out : List ℕ) → length out < length s → out ≡ written s out
-too-long s out h = sym (ap (λ (b : Bool). cond b (s ++ drop (length s) out) out) (lt-leb _ _ h))
+pub bounded-number : {m : MaxOccurs} {n : ℕ} → m ≡ Bounded n → n ≡ maxOccursNumber m
+bounded-number e = ap maxOccursNumber (sym e)
+
+pub unbounded-number : {m : MaxOccurs} → m ≡ Unbounded → beyond ≡ maxOccursNumber m
+unbounded-number e = ap maxOccursNumber (sym e)
+
+-- s is the item's bytes x, and was copied to the start of out, where it fits; one that does not fit was not
+module _ {s x : List ℕ} (e : s ≡ x) (out : List ℕ) where
+  pub fits : {after : List ℕ} → length s ≤ length out → after ≡ take (length s) s ++ drop (length s) out → after ≡ written x out
+  fits h k =
+      k ∙ (ap (λ (y : List ℕ). y ++ drop (length s) out) (take-all (length s) s (le-refl (length s)))
+      ∙ (sym (ap (λ (b : Bool). cond b (s ++ drop (length s) out) out) (le-leb _ _ h)) ∙ ap (λ (y : List ℕ). written y out) e))
+
+  pub too-long : length out < length s → out ≡ written x out
+  too-long h = sym (ap (λ (b : Bool). cond b (s ++ drop (length s) out) out) (lt-leb _ _ h)) ∙ ap (λ (y : List ℕ). written y out) e

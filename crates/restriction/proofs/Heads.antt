@@ -19,8 +19,8 @@ once-never (item h k r) = rw (once-never r)
 
 module _ (l : ℕ) (p : Occurs) where
   -- only an element's pair is altered, and only a wildcard's
-  pub once-element : (once : Bool) (k : ℕ) → once ≡ true → k ≡ 0 → exactly 1 ≡ pairOf (onceHead once (headFrom k l p))
-  once-element once k o e = rw (o, e)
+  pub once-element : (once : Bool) (k : ℕ) {q : Occurs} → q ≡ exactly 1 → once ≡ true → k ≡ 0 → q ≡ pairOf (onceHead once (headFrom k l p))
+  once-element once k i o e = rw (o, e) i
 
   pub any-wildcard : (any : Bool) (k : ℕ) → any ≡ true → k ≡ 1 → anyNumber ≡ pairOf (anyHead any (headFrom k l p))
   any-wildcard any k a e = rw (a, e)

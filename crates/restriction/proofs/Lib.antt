@@ -1,4 +1,5 @@
 pub mod Parts
+pub mod Ranges
 pub mod Readings
 pub mod Members
 pub mod LeftOver

@@ -56,18 +56,18 @@ module _ (J : Judge) (lax once : Bool) (dn : ℕ) (ds : List ℕ) (bn : ℕ) (bs
   pub record Between (seen : Bool) (dt : List ℕ) (i : ℕ) (bt : List ℕ) (j : ℕ) : Type 0 where
     pub derived : Part i dt ds
     pub base : Part j bt bs
-    pub goes : theWalk ≡ definiteOf seen (recurseOrdered J lax (eachOnce once (row i dt)) (row j bt))
+    pub rest-says : theWalk ≡ definiteOf seen (recurseOrdered J lax (eachOnce once (row i dt)) (row j bt))
 
   -- the derived item that d starts with is tried; the next one starts dt
   pub record Trying (d dt : List ℕ) (i : ℕ) (seen : Bool) (bt : List ℕ) (j : ℕ) : Type 0 where
     pub tried : Part 1 d ds
     pub derived : Part i dt ds
     pub base : Part j bt bs
-    pub goes : theWalk ≡ definiteOf seen (recurseOrdered J lax (cons (asOnce once (tree d)) (eachOnce once (row i dt))) (row j bt))
+    pub rest-says : theWalk ≡ definiteOf seen (recurseOrdered J lax (cons (asOnce once (tree d)) (eachOnce once (row i dt))) (row j bt))
 
 module _ {J : Judge} {lax once : Bool} {dn : ℕ} {ds : List ℕ} {bn : ℕ} {bs : List ℕ} where
   pub walk-start : Run dn ds → Run bn bs → Between J lax once dn ds bn bs false ds dn bs bn
-  walk-start w v = record { derived = part-start w; base = part-start v; goes = refl }
+  walk-start w v = record { derived = part-start w; base = part-start v; rest-says = refl }
 
   module _ {seen : Bool} {dt : List ℕ} {i : ℕ} {bt : List ℕ} {j : ℕ} (w : Between J lax once dn ds bn bs seen dt i bt j) where
     pub walk-try : 0 < i → {s : List ℕ} → s ≡ laterPart dt → Trying J lax once dn ds bn bs dt s (i - 1) seen bt j
@@ -76,26 +76,26 @@ module _ {J : Judge} {lax once : Bool} {dn : ℕ} {ds : List ℕ} {bn : ℕ} {bs
       tried = record { trees = first-tree (w .derived .trees) some; within = w .derived .within };
       derived = part-next (w .derived .trees) some e (w .derived .within);
       base = w .base;
-      goes = w .goes ∙ ap (λ (x : Items). definiteOf seen (recurseOrdered J lax (eachOnce once x) (row j bt))) (row-cons (w .derived .trees) some e);
+      rest-says = w .rest-says ∙ ap (λ (x : Items). definiteOf seen (recurseOrdered J lax (eachOnce once x) (row j bt))) (row-cons (w .derived .trees) some e);
     }
 
     -- no derived item is left
     ended : i ≤ 0 → theWalk J lax once dn ds bn bs ≡ definiteOf seen (recurseOrdered J lax none (row j bt))
     unfolding eachOnce
-    ended z = w .goes ∙ ap (λ (x : Items). definiteOf seen (recurseOrdered J lax (eachOnce once x) (row j bt))) (row-none i dt z)
+    ended z = w .rest-says ∙ ap (λ (x : Items). definiteOf seen (recurseOrdered J lax (eachOnce once x) (row j bt))) (row-none i dt z)
 
-    pub lax-end : i ≤ 0 → lax ≡ true → theWalk J lax once dn ds bn bs ≡ definiteOf seen passes
-    lax-end z l = ended z ∙ rw l (ap (definiteOf seen) (lax-ends J (row j bt)))
+    pub lax-end : {m : Mark} → i ≤ 0 → lax ≡ true → m ≡ definiteOf seen passes → m ≡ theWalk J lax once dn ds bn bs
+    lax-end z l a = a ∙ sym (ended z ∙ rw l (ap (definiteOf seen) (lax-ends J (row j bt))))
 
-    -- m is what the base items left over say
-    pub strict-end : i ≤ 0 → lax ≡ false → {m : Mark} → m ≡ leftOver (row j bt) → theWalk J lax once dn ds bn bs ≡ definiteOf seen m
-    strict-end z l e = ended z ∙ rw l (ap (definiteOf seen) (strict-ends J (row j bt) ∙ sym e))
+    -- o is what the base items left over say
+    pub strict-end : {o m : Mark} → i ≤ 0 → lax ≡ false → o ≡ leftOver (row j bt) → m ≡ definiteOf seen o → m ≡ theWalk J lax once dn ds bn bs
+    strict-end z l e a = a ∙ sym (ended z ∙ rw l (ap (definiteOf seen) (strict-ends J (row j bt) ∙ sym e)))
 
   module _ {d dt : List ℕ} {i : ℕ} {seen : Bool} {b : List ℕ} {j : ℕ} (w : Trying J lax once dn ds bn bs d dt i seen b j) where
     -- base items are used up
-    pub used-up : j ≤ 0 → theWalk J lax once dn ds bn bs ≡ definiteOf seen (fails 120)
+    pub used-up : {m : Mark} → j ≤ 0 → m ≡ definiteOf seen (fails 120) → m ≡ theWalk J lax once dn ds bn bs
     unfolding recurseOrdered
-    used-up z = w .goes ∙ ap (λ (y : Items). definiteOf seen (recurseOrdered J lax (cons (asOnce once (tree d)) (eachOnce once (row i dt))) y)) (row-none j b z)
+    used-up z a = a ∙ sym (w .rest-says ∙ ap (λ (y : Items). definiteOf seen (recurseOrdered J lax (cons (asOnce once (tree d)) (eachOnce once (row i dt))) y)) (row-none j b z))
 
     -- a turn: v is the mark of the two items, bt the part after the base item
     module _ (some : 0 < j) {bt : List ℕ} (e : bt ≡ laterPart b) where
@@ -109,8 +109,8 @@ module _ {J : Judge} {lax once : Bool} {dn : ℕ} {ds : List ℕ} {bn : ℕ} {bs
       s = row (j - 1) bt
 
       -- the walk goes on with m
-      turn : {m : Mark} → recurseOrdered J lax (cons x r) (cons (tree b) s) ≡ m → theWalk J lax once dn ds bn bs ≡ definiteOf seen m
-      turn {m} g = w .goes ∙ ap (definiteOf seen) (ap (recurseOrdered J lax (cons x r)) (row-cons (w .base .trees) some e) ∙ g)
+      mark-becomes : {m : Mark} → recurseOrdered J lax (cons x r) (cons (tree b) s) ≡ m → theWalk J lax once dn ds bn bs ≡ definiteOf seen m
+      mark-becomes {m} g = w .rest-says ∙ ap (definiteOf seen) (ap (recurseOrdered J lax (cons x r)) (row-cons (w .base .trees) some e) ∙ g)
 
       later-base : Part (j - 1) bt bs
       later-base = part-next (w .base .trees) some e (w .base .within)
@@ -120,13 +120,13 @@ module _ {J : Judge} {lax once : Bool} {dn : ℕ} {ds : List ℕ} {bn : ℕ} {bs
         says-as v′ q = sym says ∙ ap markOf q
 
         pub both-advance : v ≡ Ok → Between J lax once dn ds bn bs seen dt i bt (j - 1)
-        both-advance q = record { derived = w .derived; base = later-base; goes = turn (step-passes J lax x (tree b) r s (says-as Ok q)) }
+        both-advance q = record { derived = w .derived; base = later-base; rest-says = mark-becomes (step-passes J lax x (tree b) r s (says-as Ok q)) }
 
         pub seen-advance : v ≡ Unknown → Between J lax once dn ds bn bs true dt i bt (j - 1)
         seen-advance q = record {
           derived = w .derived;
           base = later-base;
-          goes = turn (step-undecided J lax x (tree b) r s (says-as Unknown q)) ∙ now-seen seen;
+          rest-says = mark-becomes (step-undecided J lax x (tree b) r s (says-as Unknown q)) ∙ now-seen seen;
         }
 
         module _ {k : Reason} (q : v ≡ Violation k) where
@@ -135,7 +135,7 @@ module _ {J : Judge} {lax once : Bool} {dn : ℕ} {ds : List ℕ} {bn : ℕ} {bs
             tried = w .tried;
             derived = w .derived;
             base = later-base;
-            goes = turn (step-skips J lax x (tree b) r s (says-as (Violation k) q) h);
+            rest-says = mark-becomes (step-skips J lax x (tree b) r s (says-as (Violation k) q) h);
           }
 
           pub skip-lax : lax ≡ true → Trying J lax once dn ds bn bs d dt i seen bt (j - 1)
@@ -145,5 +145,5 @@ module _ {J : Judge} {lax once : Bool} {dn : ℕ} {ds : List ℕ} {bn : ℕ} {bs
             pub skip-emptiable : m ≡ true → Trying J lax once dn ds bn bs d dt i seen bt (j - 1)
             skip-emptiable h = skips (rw (l, ← empty, h))
 
-            pub item-fails : m ≡ false → theWalk J lax once dn ds bn bs ≡ definiteOf seen (fails (reasonNumber k))
-            item-fails h = turn (step-fails J lax x (tree b) r s (says-as (Violation k) q) (rw (l, ← empty, h)))
+            pub item-fails : {u : Mark} → m ≡ false → u ≡ definiteOf seen (fails (reasonNumber k)) → u ≡ theWalk J lax once dn ds bn bs
+            item-fails h a = a ∙ sym (mark-becomes (step-fails J lax x (tree b) r s (says-as (Violation k) q) (rw (l, ← empty, h))))

@@ -2,9 +2,9 @@
 use mathlib.Core.Bool.{Bool, true, false}
 use mathlib.Core.List.{List}
 use mathlib.Core.Path.{_≡_, refl, ap, sym, _∙_}
-use Prim.Native.Nat.{ℕ, _≤_}
+use Prim.Native.Nat.{ℕ, _≤_, _<_}
 use lib.Dec.{leb}
-use borrow.Author.Tests.{le-leb}
+use borrow.Author.Tests.{le-leb, lt-leb}
 use Rattle.particle.specs.declared.Occurs.{Occurs}
 use Rattle.particle.specs.Occurs.{rangeOk}
 use Rattle.particle.specs.Tree.{Items, none, item, Particle, tree}
@@ -14,6 +14,9 @@ use Rattle.particle.proofs.Laws.{row-one}
 use Rattle.rules.specs.Verdicts.{Mark, passes, undecided, fails}
 use Rattle.rules.specs.Combine.{_orFails_, _andThen_, _orElse_, combineReadings}
 use Rattle.rules.specs.Walk.{_⟦_⟧, Judge, recurseOrdered, alternatives}
+use Rattle.verdicts.specs.declared.Verdict.{Verdict}
+use Rattle.verdicts.specs.declared.Verdict.the-variants.{Ok}
+use Rattle.verdicts.specs.Reasons.{markOf}
 use Rattle.restriction.specs.Views.{asOnce, eachOnce}
 use Rattle.restriction.proofs.Parts.{cons}
 
@@ -93,3 +96,24 @@ module _ (J : Judge) (b : Items) (p q : Occurs) {d : List ℕ} {once : Bool} (w 
 
   pub once-choice-out : rangeOk p q ≡ false → alternatives J 106 (asOnce once (tree d)) b ≡ Choice
   once-choice-out e = rw (e, o, le-leb (q .min) 1 low) (sym (range-and-alternatives J (asOnce true (tree d)) 106 111 b))
+
+  -- m is what the code answers, `ok` what it finds of the range
+  pub once-sequence-reads : {m : Mark} {ok : Bool} → m ≡ Sequence → ok ≡ rangeOk p q → ok ≡ true → m ≡ combineReadings Sequence (leb (q .min) 1 orFails 110 andThen recurseOrdered J false (eachOnce once (row 1 d)) b)
+  once-sequence-reads a e y = a ∙ once-sequence (sym e ∙ y)
+
+  pub once-choice-reads : {m : Mark} {ok : Bool} → m ≡ alternatives J 120 (asOnce once (tree d)) b → ok ≡ rangeOk p q → ok ≡ true → m ≡ Choice
+  once-choice-reads a e y = a ∙ once-choice (sym e ∙ y)
+
+  pub once-choice-out-reads : {m : Mark} {ok : Bool} → m ≡ alternatives J 106 (asOnce once (tree d)) b → ok ≡ rangeOk p q → ok ≡ false → m ≡ Choice
+  once-choice-out-reads a e n = a ∙ once-choice-out (sym e ∙ n)
+
+-- two readings as the code takes them: a is what the first gave, m what both come to, n the base's minimum
+pub first-passes : {v : Verdict} {first : Mark} (second : Mark) → markOf v ≡ first → v ≡ Ok → passes ≡ combineReadings first second
+first-passes second a q = rw (← a, q)
+
+module _ {m a first : Mark} (n k : ℕ) where
+  pub second-fails : (rest : Mark) → m ≡ combineReadings a (fails k) → a ≡ first → 1 < n → m ≡ combineReadings first (leb n 1 orFails k andThen rest)
+  second-fails rest e f l = rw (← f, lt-leb n 1 l) e
+
+  pub second-reads : {b rest : Mark} → m ≡ combineReadings a b → a ≡ first → b ≡ rest → n ≤ 1 → m ≡ combineReadings first (leb n 1 orFails k andThen rest)
+  second-reads e f g l = rw (← f, le-leb n 1 l, ← g) e

@@ -1,21 +1,22 @@
 -- A group closed over the items that it keeps: one item left takes its place or its pair, or its record is written before them. Assumes nothing.
 use mathlib.Core.Path.{_≡_, refl, ap, sym, _∙_}
-use mathlib.Core.Bool.{true, false}
+use mathlib.Core.Bool.{Bool, true, false}
 use mathlib.Core.List.{List}
 use Prim.Native.Nat.{ℕ, _+_, _-_, _≤_}
 use native.Mathlib.Omega.{arith}
-use lib.ListN.{length, drop}
+use lib.ListN.{length, take, drop}
 use Rattle.particle.specs.declared.Record.{Record}
 use Rattle.particle.specs.Occurs.{isOnce}
 use Rattle.particle.specs.Record.{recordSize, recordAt, recordBytes, rangeOf}
 use Rattle.particle.specs.Tree.{Head, choice, Items, none, item, Particle, single, pairOf, countI, headOf}
 use Rattle.particle.specs.Encode.{recordOf}
 use Rattle.particle.specs.Write.{overwrite}
+use Rattle.particle.proofs.Laws.{part-is}
 use Rattle.particle.proofs.Heads.{pair-record}
 use Rattle.particle.proofs.RoundTrip.{head-record}
 use Rattle.tidying.specs.declared.Kept.{Kept}
 use Rattle.tidying.specs.Tidy.{takesPair, lone, closed}
-use Rattle.tidying.specs.Laid.{Laid, Removed}
+use Rattle.tidying.specs.Laid.{Laid, Removed, KeptStand}
 use Rattle.tidying.proofs.Steps.{takes-cases}
 use Rattle.tidying.proofs.LaidTrees.{laid-over, laid-within, laid-before, laid-long, laid-record, laid-open, laid-moved, laid-write}
 
@@ -49,7 +50,7 @@ paired h g = record { kind = h .kind; leaf = h .leaf; count = h .count; unbounde
 is-choice : (g h : Head) → takesPair g h ≡ true → h ≡ choice (pairOf h)
 is-choice = takes-cases (λ (g h : Head). h ≡ choice (pairOf h)) (λ q p e. refl)
 
-module _ (g : Record) (f : recordOf (headOf g) (g .count) ≡ g) (kept : Kept) {out before : List ℕ} (at : ℕ) {x : Items}
+module _ {g : Record} {kept : Kept} {out : List ℕ} {at : ℕ} (s : KeptStand g kept out at) {before : List ℕ} {x : Items}
     (l : at + recordSize ≤ length before) (n : kept .count ≡ countI x) (a : Laid before out (at + recordSize) (kept .end) x) where
   -- what the group becomes is laid from `at` to r
   abbrev Closed : (after : List ℕ) (r : ℕ) → Type 0
@@ -64,7 +65,7 @@ module _ (g : Record) (f : recordOf (headOf g) (g .count) ≡ g) (kept : Kept) {
 
   over : {after : List ℕ} → Headed after → Laid before after at (kept .end) (item (headOf g) x none)
   over e =
-      let c : counted g (kept .count) ≡ recordOf (headOf g) (countI x) = ap (λ (q : Record). counted q (kept .count)) (sym f) ∙ ap (recordOf (headOf g)) n in
+      let c : counted g (kept .count) ≡ recordOf (headOf g) (countI x) = ap (λ (q : Record). counted q (kept .count)) (sym (s .faithful)) ∙ ap (recordOf (headOf g)) n in
       laid-write at l a (headOf g) (e ∙ ap (λ (q : Record). overwrite at (recordBytes q) out) c)
 
   pub many : {after : List ℕ} → (kept .count ≡ 1 → ⊥) → Headed after → Closed after (kept .end)
@@ -80,31 +81,34 @@ module _ (g : Record) (f : recordOf (headOf g) (g .count) ≡ g) (kept : Kept) {
     closed-is : closed (headOf g) x ≡ closed (headOf g) (item (one .head) (one .items) none)
     closed-is = ap (closed (headOf g)) (one .is)
 
-    pub takes-place : {after : List ℕ} → isOnce (rangeOf g) ≡ true → Removed out after at (kept .end) → Closed after (kept .end - recordSize)
-    takes-place u r =
-        let u′ : isOnce (pairOf (headOf g)) ≡ true = ap isOnce (pair-record g) ∙ u in
-        into (record { head = one .head; items = one .items }) (closed-is ∙ rw (u′, closed)) (laid-moved at l alone r)
+    once-is : {u : Bool} → u ≡ isOnce (rangeOf g) → isOnce (pairOf (headOf g)) ≡ u
+    once-is e = ap isOnce (pair-record g) ∙ sym e
 
-    module _ (u : isOnce (rangeOf g) ≡ false) (h : Record) (eh : h ≡ recordAt (drop (at + recordSize) out)) where
+    pub takes-place : {u : Bool} {after : List ℕ} → u ≡ isOnce (rangeOf g) → u ≡ true → Removed out after at (kept .end) → Closed after (kept .end - recordSize)
+    takes-place e u r = into (record { head = one .head; items = one .items }) (closed-is ∙ rw (once-is e ∙ u, closed)) (laid-moved at l alone r)
+
+    -- h is the record of the one item, and p whether it takes g's pair
+    module _ {u p : Bool} (eu : u ≡ isOnce (rangeOf g)) (u-not : u ≡ false) {h : Record}
+        (eh : h ≡ recordAt (take (length out - (at + recordSize)) (drop (at + recordSize) out))) (ep : p ≡ takesPair (headOf g) (headOf h)) where
       u′ : isOnce (pairOf (headOf g)) ≡ false
-      u′ = ap isOnce (pair-record g) ∙ u
+      u′ = once-is eu ∙ u-not
 
       h-is : h ≡ recordOf (one .head) (countI (one .items))
-      h-is = eh ∙ laid-record l alone
+      h-is = eh ∙ (ap recordAt (part-is out (at + recordSize)) ∙ laid-record l alone)
 
-      head-is : headOf h ≡ one .head
-      head-is = ap headOf h-is ∙ head-record (one .head) (countI (one .items))
+      p-is : takesPair (headOf g) (one .head) ≡ p
+      p-is = ap (takesPair (headOf g)) (sym (ap headOf h-is ∙ head-record (one .head) (countI (one .items)))) ∙ sym ep
 
-      pub takes-pair : {middle after : List ℕ} → takesPair (headOf g) (headOf h) ≡ true → middle ≡ overwrite (at + recordSize) (recordBytes (paired h g)) out → Removed middle after at (kept .end) → Closed after (kept .end - recordSize)
+      pub takes-pair : {middle after : List ℕ} → p ≡ true → middle ≡ overwrite (at + recordSize) (recordBytes (paired h g)) out → Removed middle after at (kept .end) → Closed after (kept .end - recordSize)
       takes-pair {middle} t e r =
-          let t′ : takesPair (headOf g) (one .head) ≡ true = ap (takesPair (headOf g)) (sym head-is) ∙ t in
+          let t′ : takesPair (headOf g) (one .head) ≡ true = p-is ∙ t in
           let h-is′ : h ≡ recordOf (choice (pairOf (one .head))) (countI (one .items)) = h-is ∙ ap (λ (q : Head). recordOf q (countI (one .items))) (is-choice (headOf g) (one .head) t′) in
-          let c : paired h g ≡ recordOf (choice (pairOf (headOf g))) (countI (one .items)) = ap (λ (q : Record). paired q g) h-is′ ∙ ap (λ (q : Record). paired (recordOf (choice (pairOf (one .head))) (countI (one .items))) q) (sym f) in
+          let c : paired h g ≡ recordOf (choice (pairOf (headOf g))) (countI (one .items)) = ap (λ (q : Record). paired q g) h-is′ ∙ ap (λ (q : Record). paired (recordOf (choice (pairOf (one .head))) (countI (one .items))) q) (sym (s .faithful)) in
           let w : at + recordSize + recordSize ≤ length out = omega (arith, laid-long l alone, laid-within l alone) in
           let b : Laid out middle (at + recordSize) (kept .end) (item (choice (pairOf (headOf g))) (one .items) none) = laid-write (at + recordSize) w (laid-open l alone) (choice (pairOf (headOf g))) (e ∙ ap (λ (q : Record). overwrite (at + recordSize) (recordBytes q) out) c) in
           into (record { head = choice (pairOf (headOf g)); items = one .items }) (closed-is ∙ rw (u′, closed, t′, lone)) (laid-moved at l (laid-over (laid-before l alone) b) r)
 
-      pub stays : {after : List ℕ} → takesPair (headOf g) (headOf h) ≡ false → Headed after → Closed after (kept .end)
+      pub stays : {after : List ℕ} → p ≡ false → Headed after → Closed after (kept .end)
       stays t e =
-          let t′ : takesPair (headOf g) (one .head) ≡ false = ap (takesPair (headOf g)) (sym head-is) ∙ t in
+          let t′ : takesPair (headOf g) (one .head) ≡ false = p-is ∙ t in
           into (record { head = headOf g; items = x }) (closed-is ∙ rw (u′, closed, t′, lone) (ap (λ (y : Items). record { head = headOf g; items = y }) (sym (one .is)))) (over e)

@@ -4,17 +4,18 @@ use mathlib.Core.Bool.{Bool, true, false}
 use mathlib.Core.List.{List}
 use Prim.Native.Nat.{ℕ, _+_, _-_, _≤_}
 use native.Mathlib.Omega.{arith}
-use lib.ListN.{length, drop}
+use lib.ListN.{length, take, drop}
 use Rattle.particle.specs.declared.Occurs.{Occurs}
 use Rattle.particle.specs.declared.Record.{Record}
 use Rattle.particle.specs.Occurs.{isZero}
 use Rattle.particle.specs.Record.{recordSize, recordAt, rangeOf}
 use Rattle.particle.specs.Tree.{Head, Items, none, Particle, item, single, pairOf, _then_, countI, headOf}
 use Rattle.particle.specs.Encode.{recordOf}
+use Rattle.particle.proofs.Laws.{part-is}
 use Rattle.particle.proofs.Heads.{pair-record}
 use Rattle.particle.proofs.RoundTrip.{head-record, then-none}
 use Rattle.tidying.specs.Tidy.{splices, put, keep}
-use Rattle.tidying.specs.Laid.{Laid, Removed}
+use Rattle.tidying.specs.Laid.{Laid, Removed, KeepsAfter}
 use Rattle.tidying.proofs.LaidTrees.{laid-none, laid-over, laid-within, laid-before, laid-record, laid-long, laid-open, laid-moved}
 
 -- what is kept of an item stands before what is kept of the later ones
@@ -28,34 +29,34 @@ keep-then g x y = go (isZero (pairOf (x .head) .max)) (splices g (x .head))
     go false true = rw (then-none (x .items))
     go false false = refl
 
-module _ (g : Record) {before out : List ℕ} {start end : ℕ} {x : Particle} (l : start ≤ length before) (b : Laid before out start end (single x)) (count : ℕ) (h : Record) (e : h ≡ recordAt (drop start out)) where
-  -- what is laid down, and how many they are
-  abbrev Kept : (after : List ℕ) (end′ count′ : ℕ) → Type 0
-  Kept after end′ count′ = Laid before after start end′ (keep (headOf g) x none) × (count′ ≡ count + countI (keep (headOf g) x none))
+-- a tidied item from `start` to `end`, whose record is h
+module _ {h : Record} {out : List ℕ} {start : ℕ} (e : h ≡ recordAt (take (length out - start) (drop start out))) where
+  module _ {before : List ℕ} {end : ℕ} {x : Particle} (l : start ≤ length before) (a : Laid before out start end (single x)) where
+    h-is : h ≡ recordOf (x .head) (countI (x .items))
+    h-is = e ∙ (ap recordAt (part-is out start) ∙ laid-record l a)
 
-  h-is : h ≡ recordOf (x .head) (countI (x .items))
-  h-is = e ∙ laid-record l b
+    head-is : headOf h ≡ x .head
+    head-is = ap headOf h-is ∙ head-record (x .head) (countI (x .items))
 
-  head-is : headOf h ≡ x .head
-  head-is = ap headOf h-is ∙ head-record (x .head) (countI (x .items))
+    zero-is : isZero (pairOf (x .head) .max) ≡ isZero (rangeOf h .max)
+    zero-is = ap (λ (p : Occurs). isZero (p .max)) (ap pairOf (sym head-is) ∙ pair-record h)
 
-  zero-is : isZero (pairOf (x .head) .max) ≡ isZero (rangeOf h .max)
-  zero-is = ap (λ (p : Occurs). isZero (p .max)) (ap pairOf (sym head-is) ∙ pair-record h)
+    splices-is : (g : Head) → splices g (x .head) ≡ splices g (headOf h)
+    splices-is g = ap (splices g) (sym head-is)
 
-  pub dropped : isZero (rangeOf h .max) ≡ true → Kept out start count
+  pub dropped : {g : Record} {end count : ℕ} {z : Bool} → z ≡ isZero (rangeOf h .max) → z ≡ true → KeepsAfter g out out start end count (record { count = count; end = start })
   unfolding countI
-  dropped z = rw (zero-is ∙ z, keep) (laid-over (laid-before l b) (laid-none out start), omega arith)
+  dropped never y = record { keeps = λ before x l a. rw (zero-is l a ∙ (sym never ∙ y), keep) (laid-over (laid-before l a) (laid-none out start), omega arith) }
 
-  module _ (z : isZero (rangeOf h .max) ≡ false) where
-    pub opened : {after : List ℕ} → splices (headOf g) (headOf h) ≡ true → Removed out after start end → Kept after (end - recordSize) (count + h .count)
-    opened s r =
-        let s′ : splices (headOf g) (x .head) ≡ true = ap (splices (headOf g)) (sym head-is) ∙ s in
-        let n : h .count ≡ countI (x .items) = ap (λ (q : Record). q .count) h-is in
-        let w : start + recordSize ≤ length out = omega (arith, laid-long l b, laid-within l b) in
-        rw (zero-is ∙ z, keep, s′, put, then-none (x .items)) (laid-over (laid-before l b) (laid-moved start w (laid-open l b) r), omega (arith, n))
+  module _ {g : Record} {z s : Bool} (never : z ≡ isZero (rangeOf h .max)) (y : z ≡ false) (own : s ≡ splices (headOf g) (headOf h)) {end count : ℕ} where
+    pub opened : {after : List ℕ} → s ≡ true → Removed out after start end → KeepsAfter g out after start end count (record { count = count + h .count; end = end - recordSize })
+    opened o r = record {
+      keeps = λ before x l a.
+          let n : h .count ≡ countI (x .items) = ap (λ (q : Record). q .count) (h-is l a) in
+          let w : start + recordSize ≤ length out = omega (arith, laid-long l a, laid-within l a) in
+          rw (zero-is l a ∙ (sym never ∙ y), keep, splices-is l a (headOf g) ∙ (sym own ∙ o), put, then-none (x .items)) (laid-over (laid-before l a) (laid-moved start w (laid-open l a) r), omega (arith, n));
+    }
 
-    pub stays : splices (headOf g) (headOf h) ≡ false → Kept out end (count + 1)
+    pub stays : s ≡ false → KeepsAfter g out out start end count (record { count = count + 1; end = end })
     unfolding countI
-    stays s =
-        let s′ : splices (headOf g) (x .head) ≡ false = ap (splices (headOf g)) (sym head-is) ∙ s in
-        rw (zero-is ∙ z, keep, s′, put) (b, omega arith)
+    stays o = record { keeps = λ before x l a. rw (zero-is l a ∙ (sym never ∙ y), keep, splices-is l a (headOf g) ∙ (sym own ∙ o), put) (a, omega arith) }

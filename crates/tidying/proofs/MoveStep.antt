@@ -9,36 +9,38 @@ use lib.Seq.{getD-drop, paste, paste-zero, paste-suc, length-paste, take-paste, 
 use Rattle.particle.specs.Record.{recordSize}
 use Rattle.tidying.specs.Laid.{Removed}
 
--- i of the n bytes have moved
+-- i of the n bytes after the record at `at` have moved
 pub record Moved (before : List ℕ) (at n : ℕ) (out : List ℕ) (i : ℕ) : Type 0 where
+  pub fits : at + recordSize + n ≤ length before
   pub within : i ≤ n
   pub holds : out ≡ paste before at (drop (at + recordSize) before) i
 
-module _ (before : List ℕ) (at n : ℕ) (fits : at + recordSize + n ≤ length before) where
+pub move-start : {before : List ℕ} {at n : ℕ} → at + recordSize + n ≤ length before → Moved before at n before 0
+move-start {before} {at} f = record { fits = f; within = omega arith; holds = paste-zero before at (drop (at + recordSize) before) }
+
+module _ {before : List ℕ} {at n : ℕ} {out : List ℕ} {i : ℕ} (m : Moved before at n out i) where
   enough : n ≤ length (drop (at + recordSize) before)
-  enough = omega (arith, length-drop (at + recordSize) before)
+  enough = omega (arith, m .fits, length-drop (at + recordSize) before)
 
-  pub move-start : Moved before at n before 0
-  move-start = record { within = omega arith; holds = paste-zero before at (drop (at + recordSize) before) }
+  pub same-size : length out ≡ length before
+  same-size = ap length (m .holds) ∙ length-paste before at (drop (at + recordSize) before) i (omega arith) (omega (arith, enough))
 
-  module _ {out : List ℕ} {i : ℕ} (m : Moved before at n out i) where
-    pub same-size : length out ≡ length before
-    same-size = ap length (m .holds) ∙ length-paste before at (drop (at + recordSize) before) i (omega arith) (omega (arith, enough))
+  pub move-next : i < n → Moved before at n (set out (at + i) (getD out (at + recordSize + i) 0)) (i + 1)
+  move-next h =
+      let byte : getD out (at + recordSize + i) 0 ≡ getD (drop (at + recordSize) before) i 0 =
+      ap (λ (k : ℕ). getD out k 0) (omega arith)
+      ∙ (sym (getD-drop (at + i) out recordSize 0)
+      ∙ (ap (λ (l : List ℕ). getD l recordSize 0) (ap (drop (at + i)) (m .holds) ∙ drop-paste before at (drop (at + recordSize) before) i (omega arith) (omega (arith, enough)))
+      ∙ (getD-drop (at + i) before recordSize 0 ∙ (ap (λ (k : ℕ). getD before k 0) (omega arith) ∙ sym (getD-drop (at + recordSize) before i 0))))) in
+      record {
+        fits = m .fits;
+        within = omega arith;
+        holds = rw (byte, m .holds, add-one i) (paste-suc before at (drop (at + recordSize) before) i 0 (omega arith) (omega (arith, enough)));
+      }
 
-    pub move-next : i < n → Moved before at n (set out (at + i) (getD out (at + recordSize + i) 0)) (i + 1)
-    move-next h =
-        let byte : getD out (at + recordSize + i) 0 ≡ getD (drop (at + recordSize) before) i 0 =
-        ap (λ (k : ℕ). getD out k 0) (omega arith)
-        ∙ (sym (getD-drop (at + i) out recordSize 0)
-        ∙ (ap (λ (l : List ℕ). getD l recordSize 0) (ap (drop (at + i)) (m .holds) ∙ drop-paste before at (drop (at + recordSize) before) i (omega arith) (omega (arith, enough)))
-        ∙ (getD-drop (at + i) before recordSize 0 ∙ (ap (λ (k : ℕ). getD before k 0) (omega arith) ∙ sym (getD-drop (at + recordSize) before i 0))))) in
-        record {
-          within = omega arith;
-          holds = rw (byte, m .holds, add-one i) (paste-suc before at (drop (at + recordSize) before) i 0 (omega arith) (omega (arith, enough)));
-        }
-
-    pub move-done : {end : ℕ} → n ≤ i → n ≡ end - at - recordSize → at + recordSize ≤ end → Removed before out at end
-    move-done {end} d e w =
-        let q : end - recordSize ≡ at + n = omega arith in
-        let z : i ≡ n = omega (arith, m .within) in
-        rw (q, m .holds, z, ← e) (take-paste before at (drop (at + recordSize) before) n (omega arith) enough)
+-- all have moved
+pub move-done : {before out : List ℕ} {at end i : ℕ} → Moved before at (end - at - recordSize) out i → end - at - recordSize ≤ i → at + recordSize ≤ end → Removed before out at end
+move-done {before} {out} {at} {end} {i} m d w =
+    let q : end - recordSize ≡ at + (end - at - recordSize) = omega arith in
+    let z : i ≡ end - at - recordSize = omega (arith, m .within) in
+    rw (q, m .holds, z) (take-paste before at (drop (at + recordSize) before) (end - at - recordSize) (omega arith) (enough m))

@@ -1,9 +1,12 @@
 -- What `tidy_tree` leaves where it calls nothing: a tree without items, or one that is copied as it is. Assumes nothing.
 use mathlib.Core.Path.{_≡_, refl, ap, sym, _∙_}
-use mathlib.Core.Bool.{true, false, true≢false, false≢true}
+use mathlib.Core.Bool.{Bool, true, false, not, true≢false, false≢true}
 use mathlib.Core.List.{List}
 use Prim.Native.Nat.{ℕ, suc, _+_, _≤_}
 use native.Mathlib.Omega.{arith}
+use borrow.Author.Tests.{not-true}
+use mir.Syntax.{w64}
+use mir.Val.{Fits}
 use lib.ListN.{length}
 use Rattle.particle.specs.declared.Record.{Record}
 use Rattle.particle.specs.Record.{recordSize, recordAt, recordBytes}
@@ -61,6 +64,9 @@ module _ {t out : List ℕ} {at : ℕ} (q : Room t 1 out at) {g : Record} (e : g
   pub record-fits : at + recordSize ≤ length out
   record-fits = omega (arith, q .room, tree-size)
 
+  pub record-end-fits : Fits w64 (at + recordSize)
+  record-end-fits = omega (arith, record-fits, q .small)
+
   pub record-is : recordOf (headOf g) (g .count) ≡ g
   record-is = rw e (first-faithful (q .trees) (q .faithful))
 
@@ -77,9 +83,9 @@ module _ {t out : List ℕ} {at : ℕ} (q : Room t 1 out at) {g : Record} (e : g
       }
 
   -- the tree as it is
-  pub unaltered : {after : List ℕ} {r : Written} → isTidied (headOf g) ≡ false → Writes t out after at (row 1 t) r → Writes t out after at (tidied t) r
-  unaltered n a =
-      let h : isTidied (tree t .head) ≡ false = ap (λ (x : Particle). isTidied (x .head)) tree-parts ∙ n in
+  pub unaltered : {after : List ℕ} {r : Written} {b : Bool} → b ≡ isTidied (headOf g) → not b ≡ true → Writes t out after at (row 1 t) r → Writes t out after at (tidied t) r
+  unaltered n n′ a =
+      let h : isTidied (tree t .head) ≡ false = ap (λ (x : Particle). isTidied (x .head)) tree-parts ∙ (sym n ∙ not-true _ n′) in
       let x : row 1 t ≡ tidied t = row-one (q .trees) ∙ ap single (sym (tidy-other (tree t) h)) in
       record { read = a .read; laid = rw x at (a .laid) }
 

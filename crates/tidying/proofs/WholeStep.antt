@@ -25,21 +25,23 @@ module _ {t : List ℕ} (w : Row 1 t) where
 
   -- what was written, and its copy
   module _ {work : List ℕ} {end : ℕ} (a : StartsWith t work end) where
-    pub end-is : end ≡ recordSize * sizeI (tidied t)
+    end-is : end ≡ recordSize * sizeI (tidied t)
     end-is = sym (length-take-le end work (a .within)) ∙ (ap length (a .holds) ∙ length-encode (tidied t))
-
-    pub end-fits : end ≤ length t
-    end-fits =
-        let fewer : sizeI (tidied t) ≤ sizeI (row 1 t) = rw (row-one w) (tidy-smaller (tree t)) in
-        omega (arith, end-is, fewer, row-fits)
 
     pub part-length : end ≡ length (take end work)
     part-length = sym (length-take-le end work (a .within))
 
-    pub written : {n : ℕ} → n ≡ length (take end work) → (before : List ℕ) {after : List ℕ}
-        → after ≡ take (length (take end work)) (take end work) ++ drop (length (take end work)) before
-        → (n / recordSize ≡ sizeI (tidied t)) × (after ≡ encode (tidied t) ++ drop (length (encode (tidied t))) before)
-    written {n} e before k = (omega (arith, e, part-length, end-is), k ∙ rw (a .holds, take-length (encode (tidied t))))
+    pub part-fits : {n : ℕ} → length t ≤ n → length (take end work) ≤ n
+    part-fits l =
+        let fewer : sizeI (tidied t) ≤ sizeI (row 1 t) = rw (row-one w) (tidy-smaller (tree t)) in
+        omega (arith, part-length, end-is, fewer, row-fits)
+
+    pub records-written : {n : ℕ} → n ≡ length (take end work) → n / recordSize ≡ sizeI (tidied t)
+    records-written e = omega (arith, e, part-length, end-is)
+
+    pub tree-written : {after : List ℕ} (before : List ℕ) → after ≡ take (length (take end work)) (take end work) ++ drop (length (take end work)) before
+        → after ≡ encode (tidied t) ++ drop (length (encode (tidied t))) before
+    tree-written before k = k ∙ rw (a .holds, take-length (encode (tidied t)))
 
 pub starts-with : {t before out : List ℕ} {r : Written} → Writes t before out 0 (tidied t) r → StartsWith t out (r .end)
 starts-with w = record { within = laid-within (omega arith) (w .laid); holds = w .laid .holds }

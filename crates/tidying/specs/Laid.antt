@@ -7,7 +7,7 @@ use Rattle.particle.specs.declared.Record.{Record}
 use Rattle.particle.specs.Record.{recordSize, maxRecords}
 use Rattle.particle.specs.Tree.{Items, none, Particle, single, countI, sizeI, headOf, records, tree}
 use Rattle.particle.specs.Rows.{Row, row, runSize}
-use Rattle.particle.specs.Encode.{encode, Faithful}
+use Rattle.particle.specs.Encode.{recordOf, encode, Faithful}
 use Rattle.tidying.specs.declared.Kept.{Kept}
 use Rattle.tidying.specs.declared.Written.{Written}
 use Rattle.tidying.specs.Tidy.{keep, closed, tidy}
@@ -32,11 +32,23 @@ pub record Laid (before out : List ℕ) (at end : ℕ) (x : Items) : Type 0 wher
 abbrev pub Removed : (out after : List ℕ) (at end : ℕ) → Type 0
 Removed out after at end = take (end - recordSize) after ≡ take at out ++ take (end - at - recordSize) (drop (at + recordSize) out)
 
+-- after `count` items that are kept, one stands in out from `start` to `end`
+pub record ItemStands (out : List ℕ) (start end count : ℕ) : Type 0 where
+  pub long : start + recordSize ≤ end
+  pub within : end ≤ length out
+  pub few : count ≤ maxRecords
+
 -- r is what the group g keeps: `count` items, and what it keeps of the item from `start` to `end`
-abbrev pub KeepsAfter : (g : Record) (out after : List ℕ) (start end count : ℕ) (r : Kept) → Type 0
-KeepsAfter g out after start end count r =
-    (before : List ℕ) (x : Particle) → start ≤ length before → Laid before out start end (single x)
-    → Laid before after start (r .end) (keep (headOf g) x none) × (r .count ≡ count + countI (keep (headOf g) x none))
+pub record KeepsAfter (g : Record) (out after : List ℕ) (start end count : ℕ) (r : Kept) : Type 0 where
+  pub keeps : (before : List ℕ) (x : Particle) → start ≤ length before → Laid before out start end (single x)
+      → Laid before after start (r .end) (keep (headOf g) x none) × (r .count ≡ count + countI (keep (headOf g) x none))
+
+-- the items that g keeps stand in out after a place at `at` for g's record
+pub record KeptStand (g : Record) (kept : Kept) (out : List ℕ) (at : ℕ) : Type 0 where
+  pub faithful : recordOf (headOf g) (g .count) ≡ g
+  pub long : at + recordSize + recordSize * kept .count ≤ kept .end
+  pub within : kept .end ≤ length out
+  pub few : kept .count ≤ maxRecords
 
 -- over the items that it keeps, the group g is closed at `at`: what is left ends at r
 abbrev pub Closes : (g : Record) (kept : Kept) (out after : List ℕ) (at r : ℕ) → Type 0

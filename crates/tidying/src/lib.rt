@@ -10,9 +10,9 @@ ghost use Rattle.particle.specs.Occurs.{isOnce};
 ghost use Rattle.particle.specs.Record.{recordSize, maxRecords, recordAt, rangeOf};
 ghost use Rattle.particle.specs.Tree.{sizeI, headOf, records};
 ghost use Rattle.particle.specs.Rows.{Row, row};
-ghost use Rattle.particle.specs.Encode.{recordOf, encode, Faithful};
+ghost use Rattle.particle.specs.Encode.{encode, Faithful};
 ghost use Rattle.tidying.specs.Tidy.{splices, takesPair, isTidied};
-ghost use Rattle.tidying.specs.Laid.{tidied, Room, Removed, KeepsAfter, Closes, Writes, StartsWith};
+ghost use Rattle.tidying.specs.Laid.{tidied, Room, Removed, ItemStands, KeepsAfter, KeptStand, Closes, Writes, StartsWith};
 use particle::Record;
 
 // The length of the longest tree in bytes.
@@ -95,9 +95,7 @@ fn remove_record(out: &mut [u8], at: usize, end: usize)
 
 // What the group g keeps after `count` items: of the tidied item from `start` to `end`.
 fn keep(g: Record, out: &mut [u8], start: usize, end: usize, count: usize) -> Kept
-    requires { ⌜ start + recordSize ≤ end ⌝ }
-    requires { ⌜ end ≤ length (now out) ⌝ }
-    requires { ⌜ count ≤ maxRecords ⌝ }
+    requires { ⌜ ItemStands (now out) start end count ⌝ }
     ensures { λ r. ⌜ KeepsAfter g (now (out .entry)) (now (out .exit)) start end count r ⌝ }
 {
     let h = particle::record_at(&out[start..]);
@@ -122,10 +120,7 @@ fn keep(g: Record, out: &mut [u8], start: usize, end: usize, count: usize) -> Ke
 
 // The group g at `at`, closed over the items that it keeps, which stand after the place of its record: answers where it ends.
 fn close(g: Record, kept: Kept, out: &mut [u8], at: usize) -> usize
-    requires { ⌜ recordOf (headOf g) (g .count) ≡ g ⌝ }
-    requires { ⌜ at + recordSize + recordSize * kept .count ≤ kept .end ⌝ }
-    requires { ⌜ kept .end ≤ length (now out) ⌝ }
-    requires { ⌜ kept .count ≤ maxRecords ⌝ }
+    requires { ⌜ KeptStand g kept (now out) at ⌝ }
     ensures { λ r. ⌜ Closes g kept (now (out .entry)) (now (out .exit)) at r ⌝ }
 {
     let end = kept.end;

@@ -1,7 +1,7 @@
 -- What `emptiable` is of the first tree, by its record, and of a row, tree by tree. Assumes nothing.
 use mathlib.Core.Bool.{Bool, true, false, _||_, Bool·beq, true≢false, false≢true}
 use mathlib.Core.List.{List, [], _∷_}
-use mathlib.Core.Path.{_≡_, refl, ap, _∙_}
+use mathlib.Core.Path.{_≡_, refl, ap, sym, _∙_}
 use Prim.Native.Nat.{ℕ, _-_, _≤_, _<_}
 use borrow.Author.Tests.{ne-eqb}
 use Rattle.particle.specs.declared.Occurs.{Occurs}
@@ -22,58 +22,62 @@ required p e z = ap (λ (o : Bool). o || e) (ne-eqb (p .min) 0 z)
 
 -- r is the first tree's record
 module _ {t : List ℕ} {r : Record} (w : Row 1 t) (e : r ≡ recordAt t) where
-  pub optional-tree : r .min ≡ 0 → emptiable (tree t) ≡ true
+  pub optional-tree : r .min ≡ 0 → true ≡ emptiable (tree t)
   unfolding emptiable
-  optional-tree z = first-is emptiableFrom w e ∙ optional-from (r .kind) (r .leaf) (rangeOf r) _ z
+  optional-tree z = sym (first-is emptiableFrom w e ∙ optional-from (r .kind) (r .leaf) (rangeOf r) _ z)
 
   module _ (z : r .min ≡ 0 → ⊥) where
-    pub leaf-tree : r .kind < 2 → emptiable (tree t) ≡ false
+    pub leaf-tree : r .kind < 2 → false ≡ emptiable (tree t)
     unfolding emptiable
-    leaf-tree k = first-leaf emptiableFrom w e (λ l p es. refl) k ∙ ne-eqb (r .min) 0 z
+    leaf-tree k = sym (first-leaf emptiableFrom w e (λ l p es. refl) k ∙ ne-eqb (r .min) 0 z)
 
-    pub empty-choice : r .kind ≡ 3 → r .count ≡ 0 → emptiable (tree t) ≡ true
+    pub empty-choice : r .kind ≡ 3 → r .count ≡ 0 → true ≡ emptiable (tree t)
     unfolding emptiable
     empty-choice k n =
-        first-choice emptiableFrom w e k
-        ∙ (required (rangeOf r) _ z ∙ ap (λ (es : List Bool). isEmpty es || some es) (fold-none emptiableFrom (r .count) (itemsPart t) n))
+        sym (first-choice emptiableFrom w e k
+        ∙ (required (rangeOf r) _ z ∙ ap (λ (es : List Bool). isEmpty es || some es) (fold-none emptiableFrom (r .count) (itemsPart t) n)))
 
-    pub choice-tree : r .kind ≡ 3 → (r .count ≡ 0 → ⊥) → emptiable (tree t) ≡ some (fold emptiableFrom (row (r .count) (itemsPart t)))
-    unfolding emptiable
-    choice-tree k n =
-        let es = fold emptiableFrom (row (r .count) (itemsPart t)) in
-        first-choice emptiableFrom w e k
-        ∙ (required (rangeOf r) _ z ∙ ap (λ (xs : List Bool). isEmpty xs || some es) (fold-some emptiableFrom (r .count) (itemsPart t) (items-are w e) n refl refl))
+    -- s are its items, and u says of them what the group asks
+    module _ {s : List ℕ} (i : s ≡ itemsPart t) {u : Bool} where
+      pub choice-tree : r .kind ≡ 3 → (r .count ≡ 0 → ⊥) → u ≡ some (fold emptiableFrom (row (r .count) s)) → u ≡ emptiable (tree t)
+      unfolding emptiable
+      choice-tree k n q =
+          let es = fold emptiableFrom (row (r .count) (itemsPart t)) in
+          q ∙ rw i (sym (first-choice emptiableFrom w e k
+          ∙ (required (rangeOf r) _ z ∙ ap (λ (xs : List Bool). isEmpty xs || some es) (fold-some emptiableFrom (r .count) (itemsPart t) (items-are w e) n refl refl))))
 
-    pub ordered-tree : 2 ≤ r .kind → (r .kind ≡ 3 → ⊥) → emptiable (tree t) ≡ every (fold emptiableFrom (row (r .count) (itemsPart t)))
-    unfolding emptiable
-    ordered-tree k k′ = first-ordered emptiableFrom w e (λ p es. refl) k k′ ∙ required (rangeOf r) _ z
-
--- a row: e is whether its first tree is emptiable, s the part after that tree
-pub row-emptiable : {n : ℕ} {t : List ℕ} → Row n t → (n ≡ 0 → ⊥) → {e : Bool} → e ≡ emptiable (tree t) → {s : List ℕ} → s ≡ laterPart t
-    → fold emptiableFrom (row n t) ≡ e ∷ fold emptiableFrom (row (n - 1) s)
-unfolding emptiable
-row-emptiable {n} {t} w z = fold-some emptiableFrom n t w z
+      pub ordered-tree : 2 ≤ r .kind → (r .kind ≡ 3 → ⊥) → u ≡ every (fold emptiableFrom (row (r .count) s)) → u ≡ emptiable (tree t)
+      unfolding emptiable
+      ordered-tree k k′ q = q ∙ rw i (sym (first-ordered emptiableFrom w e (λ p es. refl) k k′ ∙ required (rangeOf r) _ z))
 
 -- the items of a group, one after the other: the first that is not as `each` asks decides
-pub none-decides : (each : Bool) {es : List Bool} → es ≡ [] → each ≡ everyOrSome each es
-none-decides true q = rw q
-none-decides false q = rw q
+none-decides : (each : Bool) → each ≡ everyOrSome each []
+none-decides true = refl
+none-decides false = refl
 
-module _ (each : Bool) {e : Bool} {es fs : List Bool} (q : es ≡ e ∷ fs) where
-  pub later-decide : Bool·beq e each ≡ true → everyOrSome each fs ≡ everyOrSome each es
-  later-decide s = rw q (go each e s)
-    where
-      go : (each e : Bool) → Bool·beq e each ≡ true → everyOrSome each fs ≡ everyOrSome each (e ∷ fs)
-      go true true s = refl
-      go true false s = absurd (false≢true s)
-      go false true s = absurd (false≢true s)
-      go false false s = refl
+later-decide : (each e : Bool) (fs : List Bool) → Bool·beq e each ≡ true → everyOrSome each fs ≡ everyOrSome each (e ∷ fs)
+later-decide true true fs s = refl
+later-decide true false fs s = absurd (false≢true s)
+later-decide false true fs s = absurd (false≢true s)
+later-decide false false fs s = refl
 
-  pub first-decides : Bool·beq e each ≡ false → e ≡ everyOrSome each es
-  first-decides s = rw q (go each e s)
-    where
-      go : (each e : Bool) → Bool·beq e each ≡ false → e ≡ everyOrSome each (e ∷ fs)
-      go true true s = absurd (true≢false s)
-      go true false s = refl
-      go false true s = refl
-      go false false s = absurd (true≢false s)
+first-decides : (each e : Bool) (fs : List Bool) → Bool·beq e each ≡ false → e ≡ everyOrSome each (e ∷ fs)
+first-decides true true fs s = absurd (true≢false s)
+first-decides true false fs s = refl
+first-decides false true fs s = refl
+first-decides false false fs s = absurd (true≢false s)
+
+pub no-item : (each : Bool) {n : ℕ} (t : List ℕ) → n ≡ 0 → each ≡ everyOrSome each (fold emptiableFrom (row n t))
+no-item each {n} t z = none-decides each ∙ ap (everyOrSome each) (sym (fold-none emptiableFrom n t z))
+
+-- e: whether the first tree of a row is emptiable
+module _ {n : ℕ} {t : List ℕ} (w : Row n t) (z : n ≡ 0 → ⊥) {e : Bool} (q : e ≡ emptiable (tree t)) where
+  row-emptiable : {s : List ℕ} → s ≡ laterPart t → fold emptiableFrom (row n t) ≡ e ∷ fold emptiableFrom (row (n - 1) s)
+  unfolding emptiable
+  row-emptiable = fold-some emptiableFrom n t w z q
+
+  pub first-item : (each : Bool) → Bool·beq e each ≡ false → e ≡ everyOrSome each (fold emptiableFrom (row n t))
+  first-item each b = rw (row-emptiable refl) (first-decides each e _ b)
+
+  pub later-items : (each : Bool) {s : List ℕ} {u : Bool} → s ≡ laterPart t → Bool·beq e each ≡ true → u ≡ everyOrSome each (fold emptiableFrom (row (n - 1) s)) → u ≡ everyOrSome each (fold emptiableFrom (row n t))
+  later-items each p b a = a ∙ rw (row-emptiable p) (later-decide each e _ b)

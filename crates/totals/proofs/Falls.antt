@@ -17,18 +17,22 @@ abbrev pub ofRow : List ℕ → ℕ
 ofRow t = 2 * length t + 1
 
 module _ {n : ℕ} {t : List ℕ} (w : Row n t) (z : n ≡ 0 → ⊥) where
-  pub some-row : Row 1 t
-  some-row = row-le (omega arith) w
+  -- the first tree of a row
+  pub first-row : Row 1 t
+  first-row = row-le (omega arith) w
 
-  -- from a row to its first tree, and to the trees after it
-  pub to-first : {m : ℕ} → ofRow t ≡ m → (ofTree t < m) × Row 1 t
-  to-first e = (omega arith, some-row)
+  -- the trees after it
+  module _ {s : List ℕ} (p : s ≡ laterPart t) where
+    pub later-trees : Row (n - 1) s
+    later-trees = rw p (later-row (row-some w z))
 
-  pub to-later : {m : ℕ} → ofRow t ≡ m → {s : List ℕ} → s ≡ laterPart t → (ofRow s < m) × Row (n - 1) s
-  to-later e p =
-      let w′ = row-some w z in
-      rw p (omega (arith, later-shorter w′), later-row w′)
+    pub later-falls : {m : ℕ} → ofRow t ≡ m → ofRow s < m
+    later-falls e = rw p (omega (arith, later-shorter (row-some w z)))
 
--- from a tree to its items
-pub to-items : {t : List ℕ} → Row 1 t → {m : ℕ} → ofTree t ≡ m → {r : Record} → r ≡ recordAt t → {s : List ℕ} → s ≡ itemsPart t → (ofRow s < m) × Row (r .count) s
-to-items w e q p = rw p (omega (arith, items-shorter w), items-are w q)
+-- the items of a tree
+module _ {t : List ℕ} (w : Row 1 t) {s : List ℕ} (p : s ≡ itemsPart t) where
+  pub items-trees : {r : Record} → r ≡ recordAt t → Row (r .count) s
+  items-trees q = rw p (items-are w q)
+
+  pub items-fall : {m : ℕ} → ofTree t ≡ m → ofRow s < m
+  items-fall e = rw p (omega (arith, items-shorter w))

@@ -8,12 +8,6 @@ use Rattle.restriction.proofs.Heads.{any-wildcard, any-kept}
 use Rattle.restriction.proofs.pairs.base_range.Statement.{statement}
 use Rattle.restriction.proofs.pairs.base_range.Tie as tie
 
-returns : tie.Need-returns
-returns c =
-    let a = c .before .before .before .args in
-    let r = a .r in
-    any-wildcard (r .leaf) (rangeOf r) (a .any) (r .kind) (c .before .before .if1 .taken) (c .if2 .taken)
-
 returns-2 : tie.Need-returns-2
 returns-2 c =
     let a = c .before .before .args in
@@ -21,4 +15,4 @@ returns-2 c =
     c .range .ensures ∙ any-kept (r .leaf) (rangeOf r) (a .any) (r .kind) (⊎-elim (λ w o. w .2 .left) (λ w o. absurd (true≢false (sym o ∙ w .left))) (c .before .if1 .came))
 
 pub base-range-spec : {M : Type 1} → statement M
-base-range-spec = tie.close (tie.spec returns (λ c κs. search needs) returns-2)
+base-range-spec = tie.close (tie.spec (λ c. search any-wildcard) (λ c κs. search needs) returns-2)

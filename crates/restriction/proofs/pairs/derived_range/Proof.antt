@@ -8,12 +8,6 @@ use Rattle.restriction.proofs.Heads.{once-element, once-kept}
 use Rattle.restriction.proofs.pairs.derived_range.Statement.{statement}
 use Rattle.restriction.proofs.pairs.derived_range.Tie as tie
 
-returns : tie.Need-returns
-returns c =
-    let a = c .before .before .before .before .args in
-    let r = a .r in
-    c .exactly-one .ensures ∙ once-element (r .leaf) (rangeOf r) (a .once) (r .kind) (c .before .before .before .if1 .taken) (c .before .if2 .taken)
-
 returns-2 : tie.Need-returns-2
 returns-2 c =
     let a = c .before .before .args in
@@ -21,4 +15,4 @@ returns-2 c =
     c .range .ensures ∙ once-kept (r .leaf) (rangeOf r) (a .once) (r .kind) (⊎-elim (λ w o. w .2 .left) (λ w o. absurd (true≢false (sym o ∙ w .left))) (c .before .if1 .came))
 
 pub derived-range-spec : {M : Type 1} → statement M
-derived-range-spec = tie.close (tie.spec (λ c κs. search needs) returns (λ c κs. search needs) returns-2)
+derived-range-spec = tie.close (tie.spec (λ c κs. search needs) (λ c. search once-element) (λ c κs. search needs) returns-2)
