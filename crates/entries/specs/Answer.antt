@@ -18,7 +18,7 @@ pub data Answer (A : Type 0) : Type 0 where
   gives : A → Answer A
   refused : ℕ → Answer A
 
--- the first refusal of the bytes as a tree alone: leaf numbers below maxLeaves, refusals 10 to 14
+-- the first refusal of the bytes as a tree alone: leaf numbers below `maxLeaves`, refusals 10 to 14
 abbrev pub refusalAlone : List ℕ → Checked
 refusalAlone t = refusalIn alone t
 

@@ -59,7 +59,7 @@ unfoldable pub TreesFit : Known → Items → ℕ → Bool → Type 0
 TreesFit known none depth inAll = Unit {0}
 TreesFit known (item h k r) depth inAll = RecordFits known h k depth inAll × TreesFit known k (suc depth) (isAll h) × TreesFit known r depth inAll
 
--- a tree that meets document 01's conditions: at most maxRecords records, and each record in order
+-- a tree that meets document 01's conditions: at most `maxRecords` records, and each record in order
 pub record TreeFits (known : Known) (x : Particle) : Type 0 where
   pub few : sizeI (single x) ≤ maxRecords
   pub each : TreesFit known (single x) 1 false

@@ -52,7 +52,7 @@ refusalIn known t =
     (Refused Counts)
     (scan known (records t) (level 1 false ∷ []))
 
--- the leaves of a tree alone: numbers below maxLeaves, of either kind
+-- the leaves of a tree alone: the numbers below `maxLeaves`, of either kind
 abbrev pub alone : Known
 alone kind leaf = ltb leaf maxLeaves
 

@@ -53,7 +53,7 @@ knownBy [] kind leaf = false
 knownBy (l ∷ ls) kind zero = eqb (l .kind) kind
 knownBy (l ∷ ls) kind (suc leaf) = knownBy ls kind leaf
 
--- a paper that meets document 01's conditions: 1 to maxLeaves leaves, two tables of their verdicts, two trees over them, each of at most maxRecords records
+-- a paper that meets document 01's conditions: 1 to `maxLeaves` leaves, two tables of their verdicts, two trees over them, each of at most `maxRecords` records
 pub record PaperFits (p : Paper) : Type 0 where
   pub some : 1 ≤ length (p .leaves)
   pub few : length (p .leaves) ≤ maxLeaves

@@ -1,4 +1,4 @@
--- `intake::check_alone` meets its contract: a list of as many leaves as there can be, of either kind, knows what a tree alone may use. Assumes nothing.
+-- `intake::check_alone` meets its contract: a list of `maxLeaves` leaves of either kind knows what a tree alone may use. Assumes nothing.
 use mathlib.Core.Path.{_≡_, ap, _∙_, fun-ext}
 use Prim.Native.Nat.{ℕ, _≤_, _<_}
 use native.Mathlib.Decide.{decLt}
