@@ -36,6 +36,7 @@ module _ (t : ℕ) (c : lts.After-kind-of2 (by-kinds-calls t) (by-kinds-at t) re
   abbrev start : lts.Start (by-kinds-calls t) (by-kinds-at t) reads.Post
   start = let r = derived-read in search
 
+  -- what has been read of both trees
   sides : Sides (start .args .leaves .now) (start .args .tables .now) (start .args .n) (start .args .once) (start .args .any) (start .args .d .now) (start .args .b .now)
       (derived-read .record-at .result) (base-read .record-at2 .result) (derived-pair .derived-range .result) (base-pair .base-range .result)
       (derived-items .items .result .now) (base-items .items2 .result .now) (kind .kind-of .result) (c .kind-of2 .result) t
