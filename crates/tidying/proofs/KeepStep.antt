@@ -29,7 +29,7 @@ keep-then g x y = go (isZero (pairOf (x .head) .max)) (splices g (x .head))
     go false true = rw (then-none (x .items))
     go false false = refl
 
--- a tidied item from `start` to `end`, whose record is h
+-- a tidied item from `start` to `end`, whose record is h; z: whether its maximum is 0, s: whether g opens it
 module _ {h : Record} {out : List ℕ} {start : ℕ} (e : h ≡ recordAt (take (length out - start) (drop start out))) where
   module _ {before : List ℕ} {end : ℕ} {x : Particle} (l : start ≤ length before) (a : Laid before out start end (single x)) where
     h-is : h ≡ recordOf (x .head) (countI (x .items))

@@ -6,7 +6,9 @@ use Rattle.tidying.proofs.close.Statement.{statement}
 use Rattle.tidying.proofs.close.Tie as tie
 
 returns-3 : tie.Need-returns-3
-returns-3 c before x l n a = ⊎-elim (λ v. search stays) (λ v. search many) (c .before .before .before .before .before .if1 .came)
+returns-3 c before x l n a =
+    let p : tie.Joined1 = search in
+    ⊎-elim (λ v. search stays) (λ v. search many) (p .if1 .came)
 
 pub close-spec : {M : Type 1} → statement M
 close-spec =

@@ -10,24 +10,41 @@ use Rattle.restriction.proofs.by_kinds.Reads as reads
 use Rattle.restriction.proofs.+any_alternative+by_kinds+element_choice+element_sequence+group_wildcard+recurse_ordered+restrict+same_kind+sequence_choice.Lts-by_kinds as lts
 use Rattle.restriction.proofs.+any_alternative+by_kinds+element_choice+element_sequence+group_wildcard+recurse_ordered+restrict+same_kind+sequence_choice.Proof.Base.{by-kinds-at, by-kinds-calls}
 
-module _ (t : ℕ) where
-  -- what has been read of both trees, above the match
-  sides : (c : lts.After-kind-of2 (by-kinds-calls t) (by-kinds-at t) reads.Post) →
-      let i = c .before .before .before .before .before in
-      let r = i .before .before .before .before in
-      let a = r .before .before .before .before .before .before .args in
-      Sides (a .leaves .now) (a .tables .now) (a .n) (a .once) (a .any) (a .d .now) (a .b .now)
-      (r .before .record-at .result) (r .record-at2 .result) (i .before .before .before .derived-range .result) (i .before .before .base-range .result)
-      (i .before .items .result .now) (i .items2 .result .now) (c .before .kind-of .result) (c .kind-of2 .result) t
-  sides c =
-      let i = c .before .before .before .before .before in
-      let r = i .before .before .before .before in
-      let w = r .before .before .before .before .before .before .pre in
-      record {
-        derived = record { whole = w .1 .0; first = r .before .record-at .ensures; pair = i .before .before .before .derived-range .ensures; below = i .before .items .ensures; kind = c .before .kind-of .ensures .0; small = c .before .kind-of .ensures .1 };
-        base = record { whole = w .1 .1; first = r .record-at2 .ensures; pair = i .before .before .base-range .ensures; below = i .items2 .ensures; kind = c .kind-of2 .ensures .0; small = c .kind-of2 .ensures .1 };
-        weighs = w .0;
-      }
+module _ (t : ℕ) (c : lts.After-kind-of2 (by-kinds-calls t) (by-kinds-at t) reads.Post) where
+  -- the places above the match at which something of the two trees has been read
+  abbrev kind : lts.After-kind-of (by-kinds-calls t) (by-kinds-at t) reads.Post
+  kind = search
+
+  abbrev base-items : lts.After-items2 (by-kinds-calls t) (by-kinds-at t) reads.Post
+  base-items = search
+
+  abbrev derived-items : lts.After-items (by-kinds-calls t) (by-kinds-at t) reads.Post
+  derived-items = search
+
+  abbrev base-pair : lts.After-base-range (by-kinds-calls t) (by-kinds-at t) reads.Post
+  base-pair = search
+
+  abbrev derived-pair : lts.After-derived-range (by-kinds-calls t) (by-kinds-at t) reads.Post
+  derived-pair = search
+
+  abbrev base-read : lts.After-record-at2 (by-kinds-calls t) (by-kinds-at t) reads.Post
+  base-read = search
+
+  abbrev derived-read : lts.After-record-at (by-kinds-calls t) (by-kinds-at t) reads.Post
+  derived-read = let r = base-read in search
+
+  abbrev start : lts.Start (by-kinds-calls t) (by-kinds-at t) reads.Post
+  start = let r = derived-read in search
+
+  -- what has been read of both trees
+  sides : Sides (start .args .leaves .now) (start .args .tables .now) (start .args .n) (start .args .once) (start .args .any) (start .args .d .now) (start .args .b .now)
+      (derived-read .record-at .result) (base-read .record-at2 .result) (derived-pair .derived-range .result) (base-pair .base-range .result)
+      (derived-items .items .result .now) (base-items .items2 .result .now) (kind .kind-of .result) (c .kind-of2 .result) t
+  sides = record {
+    derived = record { whole = start .pre .1 .0; first = derived-read .record-at .ensures; pair = derived-pair .derived-range .ensures; below = derived-items .items .ensures; kind = kind .kind-of .ensures .0; small = kind .kind-of .ensures .1 };
+    base = record { whole = start .pre .1 .1; first = base-read .record-at2 .ensures; pair = base-pair .base-range .ensures; below = base-items .items2 .ensures; kind = c .kind-of2 .ensures .0; small = c .kind-of2 .ensures .1 };
+    weighs = start .pre .0;
+  }
 
 pub by-kinds-closed : {M : Type 1} (t : ℕ) → lts.Closed (by-kinds-calls t) (by-kinds-at t) reads.Post M
 unfolding rule

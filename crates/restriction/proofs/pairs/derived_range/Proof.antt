@@ -10,9 +10,10 @@ use Rattle.restriction.proofs.pairs.derived_range.Tie as tie
 
 returns-2 : tie.Need-returns-2
 returns-2 c =
-    let a = c .before .before .args in
-    let r = a .r in
-    c .range .ensures ∙ once-kept (r .leaf) (rangeOf r) (a .once) (r .kind) (⊎-elim (λ w o. w .2 .left) (λ w o. absurd (true≢false (sym o ∙ w .left))) (c .before .if1 .came))
+    let a : tie.Start = search in
+    let p : tie.Joined1 = search in
+    let r = a .args .r in
+    c .range .ensures ∙ once-kept (r .leaf) (rangeOf r) (a .args .once) (r .kind) (⊎-elim (λ w o. w .2 .left) (λ w o. absurd (true≢false (sym o ∙ w .left))) (p .if1 .came))
 
 pub derived-range-spec : {M : Type 1} → statement M
 derived-range-spec = tie.close (tie.spec (λ c κs. search needs) (λ c. search once-element) (λ c κs. search needs) returns-2)

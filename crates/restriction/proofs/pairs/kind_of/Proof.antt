@@ -7,12 +7,14 @@ use Rattle.restriction.proofs.pairs.kind_of.Tie as tie
 
 returns : tie.Need-returns
 returns c =
-    let r = c .before .before .args .r in
+    let a : tie.Start = search in
+    let r = a .args .r in
     (omega (arith, kind-capped (r .kind) (r .leaf) (rangeOf r)), omega arith)
 
 returns-2 : tie.Need-returns-2
 returns-2 c =
-    let r = c .before .before .args .r in
+    let a : tie.Start = search in
+    let r = a .args .r in
     (omega (arith, kind-capped (r .kind) (r .leaf) (rangeOf r)), omega arith)
 
 pub kind-of-spec : {M : Type 1} → statement M

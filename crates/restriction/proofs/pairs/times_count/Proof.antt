@@ -4,10 +4,15 @@ use Rattle.restriction.proofs.pairs.times_count.Statement.{statement}
 use Rattle.restriction.proofs.pairs.times_count.Tie as tie
 
 returns : tie.Need-returns
-returns c = rw (c .before .before .saturating-mul .ensures, c .enum-told .given .1)
+returns c =
+    let p : tie.After-saturating-mul = search in
+    rw (p .saturating-mul .ensures, c .enum-told .given .1)
 
 returns-2 : tie.Need-returns-2
-returns-2 c = rw (c .before .before .before .before .saturating-mul .ensures, c .checked-mul .ensures, c .before .before .pmax .given .1)
+returns-2 c =
+    let p : tie.After-saturating-mul = search in
+    let b : tie.After-pmax = search in
+    rw (p .saturating-mul .ensures, c .checked-mul .ensures, b .pmax .given .1)
 
 pub times-count-spec : {M : Type 1} → statement M
 times-count-spec =
