@@ -1,6 +1,5 @@
 -- `marking::mark` meets its contract. Assumes nothing.
 use borrow.Author.Needs.{needs}
-use Rattle.marking.specs.declared.MarkAnswer.the-variants.{Passes, Undecided, Fails, Refused}
 use Rattle.marking.proofs.Marking.{turned-away, accepted, marked}
 use Rattle.marking.proofs.Shown.{in-range}
 use Rattle.marking.proofs.mark.Statement.{statement}
@@ -17,7 +16,7 @@ mark-spec =
     (λ c. search needs)
     (λ c. search needs)
     (λ c. search needs)
-    (λ c. in-range _ (Refused _) (search turned-away))
-    (λ c. in-range _ Passes (search marked))
-    (λ c. in-range _ Undecided (search marked))
-    (λ c. in-range _ (Fails _) (search marked)))
+    (λ c. in-range _ _ (search turned-away))
+    (λ c. in-range _ _ (search marked))
+    (λ c. in-range _ _ (search marked))
+    (λ c. in-range _ _ (search marked)))
