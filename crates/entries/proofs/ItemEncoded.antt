@@ -14,4 +14,4 @@ use Rattle.entries.specs.ItemAnswer.{itemBytes}
 use Rattle.entries.proofs.Alone.{an-item}
 
 pub item-is-encoded : (t : List ℕ) (k : ℕ) → Bytes t → refusalAlone t ≡ Accepted → k < recordAt t .count → itemBytes k t ≡ encode (takeI 1 (dropI k (tree t .items)))
-item-is-encoded t k b e l = an-item t (sym e) k refl l .0 ∙ item-encodes t k b (accepted-row alone t e) (accepted-faithful alone t e) l
+item-is-encoded t k b e l = an-item t (sym e) k refl refl l .0 ∙ item-encodes t k b (accepted-row alone t e) (accepted-faithful alone t e) l

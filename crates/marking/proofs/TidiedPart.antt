@@ -12,11 +12,25 @@ use Rattle.particle.specs.Runs.{Run}
 use Rattle.particle.proofs.Encoded.{encoded-row, encoded-tree}
 use Rattle.tidying.specs.Tidy.{tidy}
 use Rattle.tidying.specs.Laid.{StartsWith}
+use Rattle.sheet.specs.declared.SheetChecked.the-variants.{Accepted}
+use Rattle.sheet.specs.Layout.{derivedPart, basePart}
+use Rattle.sheet.specs.Refused.{sheetRefusal}
+use Rattle.sheet.proofs.AcceptedSheet.{passed, derived-few, base-few}
 use Rattle.marking.specs.Buffers.{Buffer, Prepared}
 
--- an array of n bytes is a buffer for t
+-- an array of n bytes is a buffer for t; one as long as the longest tree is one for either tree of a sheet
 pub buffer : {t out : List ℕ} (n : ℕ) → length out ≡ n → length t ≤ n → n ≤ recordSize * maxRecords → Buffer t out
 buffer n e room most = record { room = omega (arith, e, room); most = omega (arith, e, most) }
+
+module _ (s : List ℕ) (a : sheetRefusal s ≡ Accepted) {out : List ℕ} (l : length out ≡ recordSize * maxRecords) where
+  pub derived-buffer : Buffer (derivedPart s) out
+  derived-buffer = record { room = omega (arith, derived-few (passed s a)); most = omega arith }
+
+  pub base-buffer : Buffer (basePart s) out
+  base-buffer = record { room = omega (arith, base-few (passed s a)); most = omega arith }
+
+pub same-buffer : {t p out : List ℕ} → t ≡ p → Buffer p out → Buffer t out
+same-buffer e b = rw e b
 
 -- `&out[..end]`, as the borrow checker gives it
 pub part-length : {t out : List ℕ} {end : ℕ} → Prepared t out end → end ≡ length (take end out)
@@ -27,12 +41,15 @@ module _ (t : List ℕ) {out : List ℕ} {end : ℕ} (e : StartsWith t out end) 
   pub tidied-row : Row 1 (take end out)
   tidied-row = rw (e .holds) (encoded-row (tidy (tree t)))
 
-  pub tidied-length : length (take end out) ≡ end
-  tidied-length = length-take-le end out (e .within)
+  pub tidied-length : end ≡ length (take end out)
+  tidied-length = sym (length-take-le end out (e .within))
+
+  pub tidied-small : {before : List ℕ} → length out ≡ length before → Buffer t before → length (take end out) ≤ recordSize * maxRecords
+  tidied-small l b = omega (arith, tidied-length, e .within, b .most)
 
   pub prepared : {s : List ℕ} → length s ≡ length (take end out) → Run 1 s × (tree s ≡ tree (take end out)) → Prepared t (s ++ drop end out) end
   prepared {s} l m =
-      let front : take end (s ++ drop end out) ≡ s = take-at s (drop end out) end (l ∙ tidied-length) in
+      let front : take end (s ++ drop end out) ≡ s = take-at s (drop end out) end (l ∙ sym tidied-length) in
       record {
         within = omega (arith, length-append s (drop end out), l, tidied-length);
         run = rw front (m .0);

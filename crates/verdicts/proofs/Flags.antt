@@ -8,7 +8,9 @@ use borrow.Author.Tests.{eq-eqb, ne-eqb}
 use lib.Dec.{eqb}
 use lib.ListN.{replicate}
 use Rattle.particle.specs.declared.Occurs.{Occurs}
-use Rattle.particle.specs.Tree.{Head, element, wildcard, sequence, choice, all, Items, none, item, headFrom, pairOf}
+use Rattle.particle.specs.declared.Record.{Record}
+use Rattle.particle.specs.Record.{rangeOf}
+use Rattle.particle.specs.Tree.{Head, element, wildcard, sequence, choice, all, Items, none, item, headFrom, headOf, pairOf}
 use Rattle.rules.specs.Verdicts.{Leaves, fails}
 use Rattle.rules.specs.Walk.{found, behind, takeNamed, untaken}
 use Rattle.verdicts.specs.declared.unordered.Taken.{Taken}
@@ -29,12 +31,13 @@ none-taken (suc n) none = refl
 none-taken (suc n) (item h k r) = ap (item h k) (none-taken n r)
 
 module _ (L : Leaves) (name : ℕ) where
-  -- the name of a record's head, by its kind number
-  pub element-named : (k l : ℕ) (p : Occurs) → k ≡ 0 → hasName L name (headFrom k l p) ≡ eqb (L .localName l) name
-  element-named k l p e = rw e
+  -- whether an item that is not taken has the name, by its record's kind number
+  module _ {taken : Bool} (t : taken ≡ false) (r : Record) where
+    pub element-named : {n : ℕ} → r .kind ≡ 0 → n ≡ L .localName (r .leaf) → eqb n name ≡ (not taken && hasName L name (headOf r))
+    element-named e n = rw (t, e, n)
 
-  pub other-unnamed : (k l : ℕ) (p : Occurs) → (k ≡ 0 → ⊥) → hasName L name (headFrom k l p) ≡ false
-  other-unnamed k l p z = other-kind (λ h. hasName L name h ≡ false) l p refl refl refl refl k z
+    pub other-unnamed : (r .kind ≡ 0 → ⊥) → false ≡ (not taken && hasName L name (headOf r))
+    other-unnamed z = rw t (sym (other-kind (λ h. hasName L name h ≡ false) (r .leaf) (rangeOf r) refl refl refl refl (r .kind) z))
 
   -- the first item has the name or not
   unnamed : (h : Head) (k x : Items) → hasName L name h ≡ false → takeNamed L name (item h k x) ≡ behind h k (takeNamed L name x)

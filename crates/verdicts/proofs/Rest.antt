@@ -23,6 +23,14 @@ all-passed {n} {i} {rest} w l =
     let z : n - i ≡ 0 = omega arith in
     rw z
 
+-- past a tree, with its run's length k: `&rest[k..]`
+module _ (rest : List ℕ) (k : ℕ) (e : k ≡ runSize rest) where
+  pub run-fits : k ≤ length rest
+  run-fits = omega (arith, run-within rest)
+
+  pub later-is : take (length rest - k) (drop k rest) ≡ laterPart rest
+  later-is = part-is rest k ∙ ap (λ (m : ℕ). drop m rest) e
+
 -- a tree is left
 module _ {n i : ℕ} {rest : List ℕ} (w : Rest n i rest) (l : i < n) where
   more : Row (suc (n - (i + 1))) rest
@@ -33,13 +41,6 @@ module _ {n i : ℕ} {rest : List ℕ} (w : Rest n i rest) (l : i < n) where
 
   pub whole-record : recordSize ≤ length rest
   whole-record = some-bytes more
-
-  -- past it, with the run's length k: `&rest[k..]`
-  pub run-fits : {k : ℕ} → k ≡ runSize rest → k ≤ length rest
-  run-fits e = omega (arith, run-within rest)
-
-  pub later-is : {k : ℕ} → k ≡ runSize rest → take (length rest - k) (drop k rest) ≡ laterPart rest
-  later-is {k} e = part-is rest k ∙ ap (λ (m : ℕ). drop m rest) e
 
   -- s is what is left after it
   module _ {s : List ℕ} (p : s ≡ laterPart rest) where

@@ -1,22 +1,14 @@
 -- `entries::emptiable` meets its contract. Assumes nothing.
-use mathlib.Core.Path.{ap, sym, _∙_}
+use mathlib.Core.Bool.{Bool}
+use mathlib.Core.Path.{_≡_, sym, _∙_}
 use borrow.Author.Needs.{needs}
-use Rattle.entries.specs.Answer.{gives}
 use Rattle.entries.proofs.Alone.{turned-away, taken, whole}
 use Rattle.entries.proofs.emptiable.Statement.{statement}
 use Rattle.entries.proofs.emptiable.Tie as tie
 
-emptiable-requires : tie.Need-emptiable-requires
-emptiable-requires c κs = whole (c .before .before .before .before .args .t .now) (c .before .before .check-alone .ensures) (c .enum-told .given .1)
-
-returns : tie.Need-returns
-returns c = turned-away (c .before .before .before .before .before .args .t .now) (c .before .before .before .check-alone .ensures) _ (c .before .f .given .1)
-
-returns-2 : tie.Need-returns-2
-returns-2 c = ap gives (sym (c .if1 .taken) ∙ c .before .emptiable .ensures) ∙ taken (c .before .before .before .before .before .before .args .t .now) (c .before .before .before .before .check-alone .ensures) _ (c .before .before .enum-told .given .1)
-
-returns-3 : tie.Need-returns-3
-returns-3 c = ap gives (sym (c .if1 .left) ∙ c .before .emptiable .ensures) ∙ taken (c .before .before .before .before .before .before .args .t .now) (c .before .before .before .before .check-alone .ensures) _ (c .before .before .enum-told .given .1)
+-- the test of what the callee answers
+tested : {x y z : Bool} → x ≡ y → x ≡ z → y ≡ z
+tested e f = sym e ∙ f
 
 pub emptiable-spec : {M : Type 1} → statement M
 emptiable-spec =
@@ -25,7 +17,7 @@ emptiable-spec =
     (λ c κs. search needs)
     (λ c. search needs)
     (λ c. search needs)
-    emptiable-requires
-    returns
-    returns-2
-    returns-3)
+    (λ c κs. search whole)
+    (λ c. search turned-away)
+    (λ c. search (taken, tested))
+    (λ c. search (taken, tested)))

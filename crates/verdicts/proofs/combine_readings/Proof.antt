@@ -1,16 +1,16 @@
 -- `verdicts::combine_readings` meets its contract. Assumes nothing.
+use mathlib.Core.Path.{_≡_}
 use borrow.Author.Needs.{needs}
+use Rattle.rules.specs.Verdicts.{Mark}
+use Rattle.rules.specs.Combine.{combineReadings}
+use Rattle.verdicts.specs.declared.Verdict.{Verdict}
+use Rattle.verdicts.specs.Reasons.{markOf}
 use Rattle.verdicts.proofs.combine_readings.Statement.{statement}
 use Rattle.verdicts.proofs.combine_readings.Tie as tie
 
-returns-5 : tie.Need-returns-5
-returns-5 c = rw (c .before .before .before .a .given .1, c .enum-told6 .given .1)
-
-returns-6 : tie.Need-returns-6
-returns-6 c = rw (c .before .before .before .a .given .1, c .enum-told7 .given .1)
-
-returns-7 : tie.Need-returns-7
-returns-7 c = rw (c .before .before .before .a .given .1, c .enum-told8 .given .1)
+-- the arm that both verdicts meet
+both : (a b : Verdict) {v w : Verdict} {m : Mark} → a ≡ v → b ≡ w → m ≡ combineReadings (markOf v) (markOf w) → m ≡ combineReadings (markOf a) (markOf b)
+both a b e f g = rw (e, f) g
 
 pub combine-readings-spec : {M : Type 1} → statement M
 combine-readings-spec =
@@ -29,6 +29,6 @@ combine-readings-spec =
     (λ c. search needs)
     (λ c. search needs)
     (λ c. search needs)
-    returns-5
-    returns-6
-    returns-7)
+    (λ c. search both)
+    (λ c. search both)
+    (λ c. search both))

@@ -3,8 +3,5 @@ use borrow.Author.Needs.{needs}
 use Rattle.verdicts.proofs.leaves.first.Statement.{statement}
 use Rattle.verdicts.proofs.leaves.first.Tie as tie
 
-returns : tie.Need-returns
-returns c = rw (c .before .product .ensures .0) at (c .verdict-at .ensures)
-
 pub first-spec : {M : Type 1} → statement M
-first-spec = tie.close (tie.spec (λ c κs. search needs) (λ c. search needs) (λ c κs. search needs) returns)
+first-spec = tie.close (tie.spec (λ c κs. search needs) (λ c. search needs) (λ c κs. search needs) (λ c. cc))

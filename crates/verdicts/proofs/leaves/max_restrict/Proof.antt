@@ -1,29 +1,33 @@
 -- `leaves::max_restrict` meets its contract. Assumes nothing.
 use mathlib.Core.Path.{_≡_, refl}
+use Prim.Native.Nat.{ℕ, _≤_, _<_}
 use borrow.Author.Needs.{needs}
 use borrow.Author.Tests.{le-leb, lt-leb}
 use Rattle.particle.specs.declared.MaxOccurs.{MaxOccurs}
 use Rattle.particle.specs.declared.MaxOccurs.the-variants.{Bounded, Unbounded}
-use Rattle.rules.specs.Verdicts.{passes}
+use Rattle.rules.specs.Verdicts.{passes, fails}
 use Rattle.rules.specs.Element.{maxRestrict}
 use Rattle.verdicts.proofs.leaves.max_restrict.Statement.{statement}
 use Rattle.verdicts.proofs.leaves.max_restrict.Tie as tie
 
-open-base : (d : MaxOccurs) → passes ≡ maxRestrict d Unbounded
-open-base (Bounded n) = refl
-open-base Unbounded = refl
+-- the derived maximum against the base's, each as its arm has it
+module _ (d : MaxOccurs) {b : MaxOccurs} where
+  base-open : b ≡ Unbounded → passes ≡ maxRestrict d b
+  base-open e = rw e (go d)
+    where
+      go : (d : MaxOccurs) → passes ≡ maxRestrict d Unbounded
+      go (Bounded n) = refl
+      go Unbounded = refl
 
-returns : tie.Need-returns
-returns c = rw (c .before .before .d .given .1, c .before .before .before .before .before .b .given .1, lt-leb _ _ (c .if1 .taken))
+  module _ {n : ℕ} (e : b ≡ Bounded n) where
+    derived-open : d ≡ Unbounded → fails 123 ≡ maxRestrict d b
+    derived-open f = rw (e, f)
 
-returns-2 : tie.Need-returns-2
-returns-2 c = rw (c .enum-told .given .1) (open-base (c .before .before .args .d))
+    above : {m : ℕ} → d ≡ Bounded m → n < m → fails 124 ≡ maxRestrict d b
+    above f l = rw (e, f, lt-leb _ _ l)
 
-returns-3 : tie.Need-returns-3
-returns-3 c = rw (c .enum-told2 .given .1, c .before .before .before .b .given .1)
-
-returns-4 : tie.Need-returns-4
-returns-4 c = rw (c .before .before .d .given .1, c .before .before .before .before .before .b .given .1, le-leb _ _ (c .if1 .left))
+    within : {m : ℕ} → d ≡ Bounded m → m ≤ n → passes ≡ maxRestrict d b
+    within f l = rw (e, f, le-leb _ _ l)
 
 pub max-restrict-spec : {M : Type 1} → statement M
 max-restrict-spec =
@@ -33,7 +37,7 @@ max-restrict-spec =
     (λ c. search needs)
     (λ c. search needs)
     (λ c. search needs)
-    returns
-    returns-2
-    returns-3
-    returns-4)
+    (λ c. search above)
+    (λ c. search base-open)
+    (λ c. search derived-open)
+    (λ c. search within))

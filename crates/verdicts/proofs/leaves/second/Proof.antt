@@ -3,16 +3,5 @@ use borrow.Author.Needs.{needs}
 use Rattle.verdicts.proofs.leaves.second.Statement.{statement}
 use Rattle.verdicts.proofs.leaves.second.Tie as tie
 
-returns : tie.Need-returns
-returns c = rw (c .before .before .product .ensures .0, c .before .product2 .ensures .0) at (c .verdict-at .ensures)
-
 pub second-spec : {M : Type 1} → statement M
-second-spec =
-    tie.close
-    (tie.spec
-    (λ c κs. search needs)
-    (λ c κs. search needs)
-    (λ c. search needs)
-    (λ c. search needs)
-    (λ c κs. search needs)
-    returns)
+second-spec = tie.close (tie.spec (λ c κs. search needs) (λ c κs. search needs) (λ c. search needs) (λ c. search needs) (λ c κs. search needs) (λ c. cc))

@@ -1,26 +1,28 @@
 -- `leaves::wildcard_wildcard` meets its contract. Assumes nothing.
-use mathlib.Core.Path.{sym, _∙_}
+use mathlib.Core.Path.{_≡_}
+use Prim.Native.Nat.{ℕ, _≤_, _<_}
+use native.Mathlib.Omega.{arith}
 use borrow.Author.Needs.{needs}
-use borrow.Author.Tests.{le-leb, lt-leb}
-use Rattle.verdicts.proofs.Marks.{holds, breaks}
+use Rattle.verdicts.proofs.Marks.{holds, breaks, at-least, below}
 use Rattle.verdicts.proofs.leaves.wildcard_wildcard.Statement.{statement}
 use Rattle.verdicts.proofs.leaves.wildcard_wildcard.Tie as tie
 
-returns : tie.Need-returns
-returns c =
-    let d = c .before .before .before in
-    breaks 104 _ (lt-leb _ _ (rw (c .before .before .strength .ensures, c .before .strength2 .ensures) at (c .if2 .taken)))
-    ∙ holds 103 _ (sym (d .before .range-ok .ensures) ∙ d .if1 .taken)
+-- two numbers that the code compares by others that are equal to them
+module _ {a b m n : ℕ} (e : a ≡ m) (f : b ≡ n) where
+  less : a < b → m < n
+  less l = omega arith
 
-returns-2 : tie.Need-returns-2
-returns-2 c =
-    let d = c .before .before .before .before in
-    c .second .ensures
-    ∙ (holds 104 _ (le-leb _ _ (rw (c .before .before .before .strength .ensures, c .before .before .strength2 .ensures) at (c .before .if2 .left)))
-    ∙ holds 103 _ (sym (d .before .range-ok .ensures) ∙ d .if1 .taken))
-
-returns-3 : tie.Need-returns-3
-returns-3 c = breaks 103 _ (sym (c .before .range-ok .ensures) ∙ c .if1 .left)
+  not-less : b ≤ a → n ≤ m
+  not-less l = omega arith
 
 pub wildcard-wildcard-spec : {M : Type 1} → statement M
-wildcard-wildcard-spec = tie.close (tie.spec (λ c κs. search needs) (λ c κs. search needs) (λ c κs. search needs) returns (λ c κs. search needs) returns-2 returns-3)
+wildcard-wildcard-spec =
+    tie.close
+    (tie.spec
+    (λ c κs. search needs)
+    (λ c κs. search needs)
+    (λ c κs. search needs)
+    (λ c. search (holds, below, less))
+    (λ c κs. search needs)
+    (λ c. search (holds, at-least, not-less))
+    (λ c. search breaks))
