@@ -14,7 +14,7 @@ use Rattle.intake.specs.declared.Checked.{Checked}
 use Rattle.intake.specs.declared.Checked.the-variants.{Accepted, Refused}
 use Rattle.intake.specs.Limits.{maxDepth}
 use Rattle.intake.specs.Faults.{Known, fieldsOk, pairOk, allOk, faultOf}
-use Rattle.intake.specs.Scan.{Level, level, waiting, ended, orElse, stepped, scan}
+use Rattle.intake.specs.Scan.{Level, level, waiting, ended, orElse, stepped, scan, listed}
 
 pub refused : {f : Fault} → Refused f ≡ Accepted → ⊥
 refused e = let z : _≡_ {A = ℕ} 0 1 = cc in omega arith
@@ -30,32 +30,27 @@ outcome f p g s = cond f (cond p (cond g (cond s Accepted (Refused Depth)) (Refu
 pub tests : (known : Known) (r : Record) (d : ℕ) (a : Bool) {f p g s : Bool} → fieldsOk known r ≡ f → pairOk r ≡ p → allOk r a ≡ g → leb d maxDepth ≡ s → outcome f p g s ≡ faultOf known r d a
 tests known r d a f p g s = rw (f, p, g, s)
 
--- what the first three tests found of a record at depth d: the first that failed names the fault, and then the depth
-pub record Tested (known : Known) (r : Record) (d : ℕ) (a fields pair group : Bool) : Type 0 where
-  pub fields-is : fields ≡ fieldsOk known r
-  pub pair-is : pair ≡ pairOk r
-  pub group-is : group ≡ allOk r a
+-- f, p and g are what the first three tests found of a record at depth d: the first that failed names the fault, and then the depth
+module _ (kinds : List ℕ) (r : Record) (d : ℕ) (a : Bool) {f p g : Bool} (fe : f ≡ fieldsOk (listed kinds) r) (pe : p ≡ pairOk r) (ge : g ≡ allOk r a) where
+  decided : {f′ p′ g′ s : Bool} → f ≡ f′ → p ≡ p′ → g ≡ g′ → leb d maxDepth ≡ s → outcome f′ p′ g′ s ≡ faultOf (listed kinds) r d a
+  decided x y z s = tests (listed kinds) r d a (sym fe ∙ x) (sym pe ∙ y) (sym ge ∙ z) s
 
-module _ {known : Known} {r : Record} {d : ℕ} {a f p g : Bool} (t : Tested known r d a f p g) where
-  decided : {f′ p′ g′ s : Bool} → f ≡ f′ → p ≡ p′ → g ≡ g′ → leb d maxDepth ≡ s → outcome f′ p′ g′ s ≡ faultOf known r d a
-  decided x y z s = tests known r d a (sym (t .fields-is) ∙ x) (sym (t .pair-is) ∙ y) (sym (t .group-is) ∙ z) s
-
-  pub fields-fault : not f ≡ true → Refused Fields ≡ faultOf known r d a
+  pub fields-fault : not f ≡ true → Refused Fields ≡ faultOf (listed kinds) r d a
   fields-fault x = decided (not-true f x) refl refl refl
 
   module _ (x : not f ≡ false) where
-    pub pair-fault : not p ≡ true → Refused Pair ≡ faultOf known r d a
+    pub pair-fault : not p ≡ true → Refused Pair ≡ faultOf (listed kinds) r d a
     pair-fault y = decided (not-false f x) (not-true p y) refl refl
 
     module _ (y : not p ≡ false) where
-      pub group-fault : not g ≡ true → Refused AllGroup ≡ faultOf known r d a
+      pub group-fault : not g ≡ true → Refused AllGroup ≡ faultOf (listed kinds) r d a
       group-fault z = decided (not-false f x) (not-false p y) (not-true g z) refl
 
       module _ (z : not g ≡ false) where
-        pub no-fault : d ≤ maxDepth → Accepted ≡ faultOf known r d a
+        pub no-fault : d ≤ maxDepth → Accepted ≡ faultOf (listed kinds) r d a
         no-fault l = decided (not-false f x) (not-false p y) (not-false g z) (le-leb _ _ l)
 
-        pub depth-fault : maxDepth < d → Refused Depth ≡ faultOf known r d a
+        pub depth-fault : maxDepth < d → Refused Depth ≡ faultOf (listed kinds) r d a
         depth-fault l = decided (not-false f x) (not-false p y) (not-false g z) (lt-leb _ _ l)
 
 -- a record without fault passes each test

@@ -1,5 +1,5 @@
 -- What sound contents say of a sheet, and where its parts lie. Assumes nothing.
-use mathlib.Core.Path.{_≡_}
+use mathlib.Core.Path.{_≡_, refl, ap, _∙_}
 use mathlib.Core.Bool.{true}
 use mathlib.Core.List.{List}
 use Prim.Native.Nat.{ℕ, _+_, _*_, _-_, _≤_}
@@ -60,19 +60,19 @@ pub sound : (s : List ℕ) → Contents s → contentsOk s ≡ true
 sound s c = rw (le-leb _ _ (c .start), in-range (c .leaves), in-range (c .derived), in-range (c .base), eq-eqb _ _ (c .zero), eq-eqb _ _ (c .field), eq-eqb _ _ (c .whole))
 
 -- a part of s, by where it starts and ends
-pub part-is : (s : List ℕ) {start end at : ℕ} (size : ℕ) → start ≡ at → end ≡ at + size → take (end - start) (drop start s) ≡ take size (drop at s)
+part-is : (s : List ℕ) {start end at : ℕ} (size : ℕ) → start ≡ at → end ≡ at + size → take (end - start) (drop start s) ≡ take size (drop at s)
 part-is s {start} {end} {at} size e f =
     let g : end - start ≡ size = omega arith in
     rw (g, e)
 
 module _ {s : List ℕ} (c : Contents s) where
-  pub tables-within : tablesAt (leafCount s) ≤ length s
+  tables-within : tablesAt (leafCount s) ≤ length s
   tables-within = omega (arith, c .whole)
 
-  pub derived-within : derivedAt (leafCount s) ≤ length s
+  derived-within : derivedAt (leafCount s) ≤ length s
   derived-within = omega (arith, c .whole)
 
-  pub base-within : baseAt (leafCount s) (derivedCount s) ≤ length s
+  base-within : baseAt (leafCount s) (derivedCount s) ≤ length s
   base-within = omega (arith, c .whole)
 
   length-part : (at size : ℕ) → at + size ≤ length s → length (take size (drop at s)) ≡ size
@@ -89,3 +89,31 @@ module _ {s : List ℕ} (c : Contents s) where
 
   pub length-base : length (basePart s) ≡ recordSize * baseCount s
   length-base = length-part (baseAt (leafCount s) (derivedCount s)) (recordSize * baseCount s) (omega (arith, c .whole))
+
+-- the parts by their places, which were found from the counts n and d
+module _ (s : List ℕ) (ok : contentsOk s ≡ true) where
+  pub start-within : contentsSize ≤ length s
+  start-within = contents s ok .start
+
+  module _ {n : ℕ} (l : n ≡ leafCount s) where
+    pub tables-at-within : {end : ℕ} → end ≡ tablesAt n → end ≤ length s
+    tables-at-within e = rw (e, l) (tables-within (contents s ok))
+
+    pub derived-at-within : {end : ℕ} → end ≡ derivedAt n → end ≤ length s
+    derived-at-within e = rw (e, l) (derived-within (contents s ok))
+
+    pub leaves-lie : {end : ℕ} → end ≡ tablesAt n → take (end - contentsSize) (drop contentsSize s) ≡ leavesPart s
+    leaves-lie e = part-is s (leafSize * leafCount s) refl (e ∙ ap tablesAt l)
+
+    pub tables-lie : {start end : ℕ} → start ≡ tablesAt n → end ≡ derivedAt n → take (end - start) (drop start s) ≡ tablesPart s
+    tables-lie e f = part-is s (2 * (leafCount s * leafCount s)) (e ∙ ap tablesAt l) (f ∙ ap derivedAt l)
+
+    module _ {d : ℕ} (k : d ≡ derivedCount s) where
+      pub base-at-within : {end : ℕ} → end ≡ baseAt n d → end ≤ length s
+      base-at-within e = rw (e, l, k) (base-within (contents s ok))
+
+      pub derived-lies : {start end : ℕ} → start ≡ derivedAt n → end ≡ baseAt n d → take (end - start) (drop start s) ≡ derivedPart s
+      derived-lies e f = part-is s (recordSize * derivedCount s) (e ∙ ap derivedAt l) (rw (f, l, k))
+
+      pub base-lies : {start : ℕ} → start ≡ baseAt n d → take (length s - start) (drop start s) ≡ basePart s
+      base-lies e = part-is s (recordSize * baseCount s) (rw (e, l, k)) (contents s ok .whole)

@@ -1,5 +1,6 @@
 pub mod Tests
 pub mod Contents
+pub mod ContentsTests
 pub mod ContentsBytes
 pub mod Loops
 pub mod Places

@@ -1,16 +1,18 @@
 -- What the loops over leaves and verdicts keep: what is left of the list. Assumes nothing.
 use mathlib.Core.Path.{_≡_, refl, ap, sym, _∙_}
-use mathlib.Core.Bool.{Bool, true, _&&_, and-true, and-assoc}
+use mathlib.Core.Bool.{Bool, true, _&&_, _||_, and-true, and-assoc}
 use mathlib.Core.List.{List, [], _∷_, _++_, append-nil}
-use Prim.Native.Nat.{ℕ, suc, _+_, _*_, _-_, _≤_, _<_}
+use Prim.Native.Nat.{ℕ, suc, _+_, _*_, _-_, _≤_, _<_, max}
 use native.Mathlib.Numerals.{add-one}
 use native.Mathlib.Omega.{arith}
+use lib.Dec.{leb}
 use lib.ListN.{length, take, drop, set, getD, length-set}
 use lib.Seq.{drop-cons, drop-drop, drop-length, take-suc-set, append-snoc}
 use Rattle.verdicts.specs.Paper.{leafSize}
 use Rattle.sheet.specs.declared.bodies.Leaf.{Leaf}
 use Rattle.sheet.specs.Layout.{leafAt, leavesIn}
 use Rattle.sheet.specs.Refused.{every, leafOk, verdictOk, kindsOf}
+use Rattle.sheet.proofs.Places.{both-most, verdict-by-place}
 
 -- A test of each element -------------------------------------------------------
 
@@ -96,13 +98,15 @@ module _ (s : List ℕ) where
   pub verdicts-start : VerdictsLeft s true 0
   verdicts-start = record { within = omega arith; rest = refl }
 
-  module _ (ok : Bool) (i : ℕ) (v : VerdictsLeft s ok i) where
-    pub verdict-next : i < length s → (found : Bool) → found ≡ verdictOk (getD s i 0) → VerdictsLeft s (ok && found) (i + 1)
-    verdict-next h found e =
-        let turn : drop i s ≡ getD s i 0 ∷ drop (i + 1) s = rw (drop-cons s i 0 h, add-one) in
-        record { within = omega arith; rest = every-next verdictOk _ ok _ (v .rest) _ _ turn found e }
+  -- m is the greatest verdict so far and p the greatest place; the next verdict and its place k are held against them
+  pub verdict-next : (m p i : ℕ) → VerdictsLeft s (leb m 152 && leb p 117) i → i < length s → (k : ℕ) → leb k 117 ≡ (leb 140 (getD s i 0) || leb (getD s i 0) 1)
+      → {m′ p′ : ℕ} → m′ ≡ max m (getD s i 0) → p′ ≡ max p k → VerdictsLeft s (leb m′ 152 && leb p′ 117) (i + 1)
+  verdict-next m p i v h k e f g =
+      let turn : drop i s ≡ getD s i 0 ∷ drop (i + 1) s = rw (drop-cons s i 0 h, add-one) in
+      let found = ap (λ (x : Bool). leb (getD s i 0) 152 && x) e ∙ verdict-by-place (getD s i 0) in
+      record { within = omega arith; rest = rw (f, g, both-most m (getD s i 0) 152 p k 117) (every-next verdictOk _ (leb m 152 && leb p 117) _ (v .rest) _ _ turn _ found) }
 
-    pub verdicts-done : length s ≤ i → ok ≡ every verdictOk s
-    verdicts-done h =
-        let q : i ≡ length s = omega (arith, v .within) in
-        every-done verdictOk _ _ _ (v .rest) (rw (q, drop-length s))
+  pub verdicts-done : (ok : Bool) (i : ℕ) → VerdictsLeft s ok i → length s ≤ i → ok ≡ every verdictOk s
+  verdicts-done ok i v h =
+      let q : i ≡ length s = omega (arith, v .within) in
+      every-done verdictOk _ _ _ (v .rest) (rw (q, drop-length s))

@@ -1,16 +1,19 @@
 -- `intake::number` meets its contract. Assumes nothing.
-use mathlib.Core.Path.{ap, sym, _∙_}
+use mathlib.Core.Path.{_≡_, ap, sym, _∙_}
 use Prim.Native.Nat.{ℕ, _+_}
 use borrow.Author.Needs.{needs}
-use Rattle.intake.specs.Number.{refusalNumber}
+use Rattle.intake.specs.declared.Fault.{Fault}
+use Rattle.intake.specs.declared.Refusal.{Refusal}
+use Rattle.intake.specs.declared.Refusal.the-variants.{Base, Derived}
+use Rattle.intake.specs.Number.{faultPlace, refusalNumber}
 use Rattle.intake.proofs.number.Statement.{statement}
 use Rattle.intake.proofs.number.Tie as tie
 
-returns-5 : tie.Need-returns-5
-returns-5 c = ap (λ (n : ℕ). 5 + n) (c .place .ensures .0) ∙ ap refusalNumber (sym (c .before .before .r .given .1))
+base-number : {r : Refusal} {f : Fault} {n : ℕ} → r ≡ Base f → n ≡ faultPlace f → 5 + n ≡ refusalNumber r
+base-number e q = ap (λ (n : ℕ). 5 + n) q ∙ ap refusalNumber (sym e)
 
-returns-6 : tie.Need-returns-6
-returns-6 c = ap (λ (n : ℕ). 10 + n) (c .place2 .ensures .0) ∙ ap refusalNumber (sym (c .before .before .r2 .given .1))
+derived-number : {r : Refusal} {f : Fault} {n : ℕ} → r ≡ Derived f → n ≡ faultPlace f → 10 + n ≡ refusalNumber r
+derived-number e q = ap (λ (n : ℕ). 10 + n) q ∙ ap refusalNumber (sym e)
 
 pub number-spec : {M : Type 1} → statement M
 number-spec =
@@ -30,5 +33,5 @@ number-spec =
     (λ c. search needs)
     (λ c. search needs)
     (λ c. search needs)
-    returns-5
-    returns-6)
+    (λ c. search base-number)
+    (λ c. search derived-number))

@@ -1,9 +1,13 @@
 -- `replay::judge` meets its contract. Assumes nothing.
 use mathlib.Core.Path.{_≡_, refl, sym, _∙_}
+use mathlib.Core.Bool.{Bool, true, false}
+use mathlib.Core.List.{List}
 use Prim.Native.Nat.{ℕ}
 use native.Mathlib.Omega.{arith}
 use borrow.Author.Needs.{needs}
+use Rattle.replay.specs.declared.Operation.{Operation}
 use Rattle.replay.specs.declared.Outcome.the-variants.{Agreed, Differs}
+use Rattle.replay.specs.Expected.{numberOf, bufferOf, Agrees}
 use Rattle.replay.proofs.judge.Statement.{statement}
 use Rattle.replay.proofs.judge.Tie as tie
 
@@ -11,18 +15,17 @@ use Rattle.replay.proofs.judge.Tie as tie
 differs : {A : Type 0} (x y : ℕ) → (A → ⊥) → (Differs x y ≡ Agreed → A) × (A → Differs x y ≡ Agreed)
 differs x y h = (λ e. absurd (let z : _≡_ {A = ℕ} 0 1 = cc in omega arith), λ a. absurd (h a))
 
-returns : tie.Need-returns
-returns c =
-    let answered = c .before .before .before .before .before .before .answer .ensures in
-    (λ _. record { answered = sym (c .before .before .before .if1 .taken) ∙ answered .0; left = sym (c .before .same .ensures .0 (c .if2 .taken)) ∙ answered .1 }, λ _. refl)
+-- `got` and `lent` are the operation's answer; t says whether `lent` is the stored buffer
+module _ (op : Operation) (input before : List ℕ) {got : ℕ} (e : got ≡ numberOf op input before) {stored : ℕ} (after : List ℕ) where
+  number-differs : (got ≡ stored → ⊥) → Agrees op input before stored after → ⊥
+  number-differs n a = n (e ∙ sym (a .answered))
 
-returns-2 : tie.Need-returns-2
-returns-2 c =
-    let answered = c .before .before .before .before .before .before .answer .ensures in
-    differs _ _ (λ a. let t = c .before .same .ensures .1 (answered .1 ∙ sym (a .left)) in let z : _≡_ {A = ℕ} 0 1 = cc in omega arith)
+  module _ {lent : List ℕ} (f : lent ≡ bufferOf op input before) {t : Bool} where
+    agrees : got ≡ stored → (t ≡ true → lent ≡ after) → t ≡ true → Agrees op input before stored after
+    agrees q same h = record { answered = sym q ∙ e; left = sym (same h) ∙ f }
 
-returns-3 : tie.Need-returns-3
-returns-3 c = differs _ _ (λ a. c .if1 .left (c .before .before .before .answer .ensures .0 ∙ sym (a .answered)))
+    buffer-differs : (lent ≡ after → t ≡ true) → t ≡ false → Agrees op input before stored after → ⊥
+    buffer-differs same h a = let u = same (f ∙ sym (a .left)) in let z : _≡_ {A = ℕ} 0 1 = cc in omega arith
 
 pub judge-spec : {M : Type 1} → statement M
 judge-spec =
@@ -31,8 +34,8 @@ judge-spec =
     (λ c κs. search needs)
     (λ c κs. search needs)
     (λ c. search needs)
-    returns
+    (λ c. (λ _. search agrees, λ _. refl))
     (λ c. search needs)
-    returns-2
+    (λ c. differs _ _ (λ a. search buffer-differs))
     (λ c. search needs)
-    returns-3)
+    (λ c. differs _ _ (λ a. search number-differs)))
