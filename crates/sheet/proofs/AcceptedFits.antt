@@ -33,8 +33,8 @@ paperOf s = record {
 }
 
 -- s from `at` on: a part and what follows it
-cut : (s : List ℕ) (at size : ℕ) → drop at s ≡ take size (drop at s) ++ drop (at + size) s
-cut s at size = sym (take-append-drop size (drop at s)) ∙ ap (λ (r : List ℕ). take size (drop at s) ++ r) (drop-drop size at s)
+part-then-rest : (s : List ℕ) (at size : ℕ) → drop at s ≡ take size (drop at s) ++ drop (at + size) s
+part-then-rest s at size = sym (take-append-drop size (drop at s)) ∙ ap (λ (r : List ℕ). take size (drop at s) ++ r) (drop-drop size at s)
 
 -- a tree's record count, from its bytes
 tree-size : (t : List ℕ) (n : ℕ) → t ≡ encode (single (tree t)) → length t ≡ recordSize * n → sizeI (single (tree t)) ≡ n
@@ -50,9 +50,9 @@ module _ (s : List ℕ) (b : Bytes s) (p : Passed s) where
   bodies-are : drop contentsSize s ≡ leavesPart s ++ (tablesPart s ++ (derivedPart s ++ basePart s))
   bodies-are =
       let last : drop (baseAt n (derivedCount s)) s ≡ basePart s = sym (take-all (recordSize * baseCount s) _ (omega (arith, length-drop (baseAt n (derivedCount s)) s, c .whole))) in
-      cut s contentsSize (leafSize * n)
-      ∙ ap (λ (x : List ℕ). leavesPart s ++ x) (cut s (tablesAt n) (2 * (n * n))
-      ∙ ap (λ (x : List ℕ). tablesPart s ++ x) (cut s (derivedAt n) (recordSize * derivedCount s)
+      part-then-rest s contentsSize (leafSize * n)
+      ∙ ap (λ (x : List ℕ). leavesPart s ++ x) (part-then-rest s (tablesAt n) (2 * (n * n))
+      ∙ ap (λ (x : List ℕ). tablesPart s ++ x) (part-then-rest s (derivedAt n) (recordSize * derivedCount s)
       ∙ ap (λ (x : List ℕ). derivedPart s ++ x) last))
 
   part-bytes : (at size : ℕ) → Bytes (take size (drop at s))

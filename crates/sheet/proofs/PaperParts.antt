@@ -17,8 +17,8 @@ use Rattle.sheet.proofs.ContentsBytes.{Starts, contents-back}
 use Rattle.sheet.proofs.LeafBytes.{length-leavesBytes, leaves-back}
 
 -- a part of s, and what follows it
-next : (s part rest : List ℕ) (at size : ℕ) → drop at s ≡ part ++ rest → length part ≡ size → (take size (drop at s) ≡ part) × (drop (at + size) s ≡ rest)
-next s part rest at size e l = (rw (e, take-at part rest size l), sym (drop-drop size at s) ∙ rw (e, drop-at part rest size l))
+part-read : (s part rest : List ℕ) (at size : ℕ) → drop at s ≡ part ++ rest → length part ≡ size → (take size (drop at s) ≡ part) × (drop (at + size) s ≡ rest)
+part-read s part rest at size e l = (rw (e, take-at part rest size l), sym (drop-drop size at s) ∙ rw (e, drop-at part rest size l))
 
 module _ (p : Paper) where
   abbrev n : ℕ
@@ -49,13 +49,13 @@ module _ (p : Paper) where
 
     -- each body, and what follows it
     at-leaves : (take (leafSize * n) (drop contentsSize (encodeSheet p)) ≡ leavesBytes (p .leaves)) × (drop (tablesAt n) (encodeSheet p) ≡ (p .first ++ p .second) ++ trees)
-    at-leaves = next (encodeSheet p) _ _ contentsSize (leafSize * n) (starts .after) (length-leavesBytes (p .leaves))
+    at-leaves = part-read (encodeSheet p) _ _ contentsSize (leafSize * n) (starts .after) (length-leavesBytes (p .leaves))
 
     at-tables : (take (2 * (n * n)) (drop (tablesAt n) (encodeSheet p)) ≡ p .first ++ p .second) × (drop (derivedAt n) (encodeSheet p) ≡ trees)
-    at-tables = next (encodeSheet p) _ _ (tablesAt n) (2 * (n * n)) (at-leaves .1) length-tables
+    at-tables = part-read (encodeSheet p) _ _ (tablesAt n) (2 * (n * n)) (at-leaves .1) length-tables
 
     at-derived : (take (recordSize * d) (drop (derivedAt n) (encodeSheet p)) ≡ encode (single (p .derived))) × (drop (baseAt n d) (encodeSheet p) ≡ encode (single (p .base)))
-    at-derived = next (encodeSheet p) _ _ (derivedAt n) (recordSize * d) (at-tables .1) (length-encode (single (p .derived)))
+    at-derived = part-read (encodeSheet p) _ _ (derivedAt n) (recordSize * d) (at-tables .1) (length-encode (single (p .derived)))
 
     pub sheet-leaves : leafList (encodeSheet p) ≡ p .leaves
     sheet-leaves = rw (starts .leaves, at-leaves .0) (leaves-back (p .leaves))
