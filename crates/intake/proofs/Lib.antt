@@ -6,3 +6,4 @@ pub mod FitsAccepted
 pub mod AcceptedFits
 pub mod FitsBytes
 pub mod AcceptedIff
+pub mod OneRefusal

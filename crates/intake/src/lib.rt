@@ -18,7 +18,7 @@ pub enum Fault {
     Counts,
 }
 
-// Why a sheet, a tree or a buffer is turned away.
+// Why a sheet, a tree, a chain or a buffer is turned away.
 pub enum Refusal {
     Contents,
     Buffer,
@@ -26,6 +26,8 @@ pub enum Refusal {
     Verdict,
     Base(Fault),
     Derived(Fault),
+    Chain,
+    Limit,
 }
 
 // What the check of a tree finds.
@@ -199,9 +201,9 @@ pub fn check_alone(t: &[u8]) -> Checked
     check_tree(t, &kinds)
 }
 
-// Document 01's number of a refusal.
+// The number of a refusal in documents 01 and 02.
 pub fn number(r: Refusal) -> u32
-    ensures { λ n. ⌜ n ≡ refusalNumber r ⌝ }
+    ensures { λ n. ⌜ (n ≡ refusalNumber r) × (n < 256) ⌝ }
 {
     match r {
         Refusal::Contents => 1,
@@ -210,6 +212,8 @@ pub fn number(r: Refusal) -> u32
         Refusal::Verdict => 4,
         Refusal::Base(f) => 5 + place(f),
         Refusal::Derived(f) => 10 + place(f),
+        Refusal::Chain => 15,
+        Refusal::Limit => 16,
     }
 }
 

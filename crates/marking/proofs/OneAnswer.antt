@@ -3,14 +3,11 @@ use mathlib.Core.Bool.{cond, true}
 use mathlib.Core.List.{List, [], _∷_}
 use mathlib.Core.Path.{_≡_, refl, ap, sym, _∙_}
 use Prim.Native.Nat.{ℕ}
-use lib.Dec.{eqb, leb}
+use lib.Dec.{leb}
 use borrow.Author.Tests.{le-leb}
 use Rattle.rules.specs.Verdicts.{Mark, passes, undecided, fails}
 use Rattle.rules.specs.Shown.{canShow}
-use Rattle.intake.specs.declared.Fault.the-variants.{Fields, Pair, AllGroup, Depth, Counts}
-use Rattle.intake.specs.declared.Refusal.{Refusal}
-use Rattle.intake.specs.declared.Refusal.the-variants.{Contents, Buffer, Leaf, Verdict, Base, Derived}
-use Rattle.intake.specs.Number.{refusalNumber}
+use Rattle.intake.proofs.OneRefusal.{numbered, refusalOf, refusal-back}
 use Rattle.verdicts.specs.declared.Reason.{Reason}
 use Rattle.verdicts.specs.declared.Reason.the-variants.{ElementWildcardRange, WildcardElement, WildcardRange, WeakerProcessContents, SequenceRange, ChoiceRange, AllRange, NotInAll, MissingFromAll, SequenceRequired, NoAlternative, ChoiceRequired, TotalRange, WildcardGroup, GroupKind, SequenceTotal, MemberAlternative, SequenceAllRange, MemberNotElement, NotAllowed, RequiredMissing, MinBelow, MaxUnbounded, MaxAbove, Set}
 use Rattle.verdicts.specs.Reasons.{reasonNumber}
@@ -19,11 +16,6 @@ use Rattle.marking.specs.declared.MarkAnswer.{MarkAnswer}
 use Rattle.marking.specs.declared.MarkAnswer.the-variants.{Passes, Undecided, Fails, Refused}
 use Rattle.marking.specs.Answer.{markSheet, markMeaning}
 use Rattle.marking.proofs.Shown.{paper-range, sheet-reasons-shown}
-
--- the first of a list that has this number
-unfoldable numbered : {A : Type 0} → (A → ℕ) → (otherwise : A) → List A → ℕ → A
-numbered number otherwise [] n = otherwise
-numbered number otherwise (x ∷ xs) n = cond (eqb (number x) n) x (numbered number otherwise xs n)
 
 -- the reasons of the rules
 abbrev ruleReasons : List Reason
@@ -66,33 +58,6 @@ reason-back MaxAbove e = refl
 reason-back (Set n) e =
     let p = paper-range n e in
     rw (le-leb 140 n (p .0), le-leb n 152 (p .1), le-leb 140 n (p .0))
-
-abbrev refusals : List Refusal
-refusals =
-    Contents ∷ Buffer ∷ Leaf ∷ Verdict
-    ∷ Base Fields ∷ Base Pair ∷ Base AllGroup ∷ Base Depth ∷ Base Counts
-    ∷ Derived Fields ∷ Derived Pair ∷ Derived AllGroup ∷ Derived Depth ∷ Derived Counts
-    ∷ []
-
-abbrev refusalOf : ℕ → Refusal
-refusalOf n = numbered refusalNumber Contents refusals n
-
-refusal-back : (r : Refusal) → refusalOf (refusalNumber r) ≡ r
-unfolding numbered
-refusal-back Contents = refl
-refusal-back Buffer = refl
-refusal-back Leaf = refl
-refusal-back Verdict = refl
-refusal-back (Base Fields) = refl
-refusal-back (Base Pair) = refl
-refusal-back (Base AllGroup) = refl
-refusal-back (Base Depth) = refl
-refusal-back (Base Counts) = refl
-refusal-back (Derived Fields) = refl
-refusal-back (Derived Pair) = refl
-refusal-back (Derived AllGroup) = refl
-refusal-back (Derived Depth) = refl
-refusal-back (Derived Counts) = refl
 
 -- the case that stands for this
 abbrev caseOf : Answer Mark → MarkAnswer

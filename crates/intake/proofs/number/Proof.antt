@@ -1,6 +1,7 @@
 -- `intake::number` meets its contract. Assumes nothing.
 use mathlib.Core.Path.{_≡_, ap, sym, _∙_}
 use Prim.Native.Nat.{ℕ, _+_}
+use native.Mathlib.Omega.{arith}
 use borrow.Author.Needs.{needs}
 use Rattle.intake.specs.declared.Fault.{Fault}
 use Rattle.intake.specs.declared.Refusal.{Refusal}
@@ -33,5 +34,9 @@ number-spec =
     (λ c. search needs)
     (λ c. search needs)
     (λ c. search needs)
-    (λ c. search base-number)
-    (λ c. search derived-number))
+    (λ c. search needs)
+    (λ c. search needs)
+    (λ c. (search base-number, omega arith))
+    (λ c. (search derived-number, omega arith))
+    (λ c. search needs)
+    (λ c. search needs))
