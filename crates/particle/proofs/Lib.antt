@@ -1,6 +1,7 @@
 pub mod Tests
 pub mod Records
 pub mod Store
+pub mod Copied
 pub mod Trees
 pub mod Run
 pub mod Laws
