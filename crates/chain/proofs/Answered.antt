@@ -1,0 +1,58 @@
+-- How a chain is answered: what was found before each answer. Assumes nothing.
+use mathlib.Core.Bool.{Bool, true, false, cond}
+use mathlib.Core.List.{List}
+use mathlib.Core.Option.{Option, none, some}
+use mathlib.Core.Path.{_≡_, refl}
+use Prim.Native.Nat.{ℕ, _*_, _≤_}
+use lib.Dec.{ltb}
+use lib.ListN.{length}
+use borrow.Author.Tests.{ltb-false}
+use Rattle.particle.specs.Record.{recordSize}
+use Rattle.particle.specs.Tree.{Particle, single, sizeI}
+use Rattle.intake.specs.declared.Fault.{Fault}
+use Rattle.intake.specs.declared.Checked.{Checked}
+use Rattle.intake.specs.declared.Checked.the-variants.{Accepted, Refused}
+use Rattle.intake.specs.declared.Refusal.the-variants.{Buffer, Derived, Chain, Limit}
+use Rattle.intake.specs.Number.{refusalNumber}
+use Rattle.entries.specs.Answer.{Answer, gives, refused}
+use Rattle.chain.specs.Layout.{levels}
+use Rattle.chain.specs.Answer.{chainOk, levelsRefusal, joinedTree, overLimits, contentAnswer, afterLevels, chainAnswer}
+
+-- a chain whose trees are accepted
+pub record Sound (c : List ℕ) : Type 0 where
+  pub ok : chainOk c ≡ true
+  pub accepted : levelsRefusal (levels c) ≡ Accepted
+
+-- every way to an answer, in the order of the checks
+pub data Reached (c out : List ℕ) : Answer (Option ℕ) → Type 0 where
+  noChain : chainOk c ≡ false → Reached c out (refused (refusalNumber Chain))
+  badTree : {f : Fault} → chainOk c ≡ true → levelsRefusal (levels c) ≡ Refused f → Reached c out (refused (refusalNumber (Derived f)))
+  noContent : Sound c → joinedTree c ≡ none → Reached c out (gives none)
+  tooLarge : {x : Particle} → Sound c → joinedTree c ≡ some x → overLimits x ≡ true → Reached c out (refused (refusalNumber Limit))
+  tooShort : {x : Particle} → Sound c → joinedTree c ≡ some x → overLimits x ≡ false → Reached c out (refused (refusalNumber Buffer))
+  joins : {x : Particle} → Sound c → joinedTree c ≡ some x → overLimits x ≡ false → recordSize * sizeI (single x) ≤ length out → Reached c out (gives (some (sizeI (single x))))
+
+module _ (c out : List ℕ) where
+  sized : {x : Particle} → Sound c → joinedTree c ≡ some x → overLimits x ≡ false → (short : Bool) → ltb (length out) (recordSize * sizeI (single x)) ≡ short → Reached c out (cond short (refused (refusalNumber Buffer)) (gives (some (sizeI (single x)))))
+  sized s i l true e = tooShort s i l
+  sized {x} s i l false e = joins s i l (ltb-false (length out) (recordSize * sizeI (single x)) e)
+
+  limited : (x : Particle) → Sound c → joinedTree c ≡ some x → (over : Bool) → overLimits x ≡ over → Reached c out (contentAnswer (some x) (length out))
+  limited x s i true l = rw l (tooLarge s i l)
+  limited x s i false l = rw l (sized s i l (ltb (length out) (recordSize * sizeI (single x))) refl)
+
+  joined : Sound c → (t : Option Particle) → joinedTree c ≡ t → Reached c out (contentAnswer t (length out))
+  joined s none i = noContent s i
+  joined s (some x) i = limited x s i (overLimits x) refl
+
+  checked : chainOk c ≡ true → (f : Checked) → levelsRefusal (levels c) ≡ f → Reached c out (afterLevels f (contentAnswer (joinedTree c) (length out)))
+  checked k Accepted a = joined (record { ok = k; accepted = a }) (joinedTree c) refl
+  checked k (Refused f) a = badTree k a
+
+  laid : (ok : Bool) → chainOk c ≡ ok → Reached c out (cond ok (afterLevels (levelsRefusal (levels c)) (contentAnswer (joinedTree c) (length out))) (refused (refusalNumber Chain)))
+  laid true k = checked k (levelsRefusal (levels c)) refl
+  laid false k = noChain k
+
+  pub reached : Reached c out (chainAnswer c out)
+  unfolding chainAnswer
+  reached = laid (chainOk c) refl

@@ -1,0 +1,16 @@
+pub mod Extending
+pub mod Levels
+pub mod Lengths
+pub mod Loops
+pub mod NestStep
+pub mod Shallow
+pub mod Joined
+pub mod Entry
+pub mod Answered
+pub mod Written
+pub mod BaseOfSheet
+pub mod Allowed
+pub mod TurnedAway
+pub mod OneAnswer
+pub mod ChainIff
+pub mod Examples

@@ -1,0 +1,6 @@
+pub mod Layout
+pub mod Effective
+pub mod Answer
+pub mod Nested
+pub mod Fits
+pub mod Facts
