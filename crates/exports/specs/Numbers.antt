@@ -1,6 +1,7 @@
 -- What the exported numbers mean, and what is written to a lent buffer. Assumes nothing: these are definitions.
 use mathlib.Core.Bool.{Bool, true, false, cond}
 use mathlib.Core.List.{List}
+use mathlib.Core.Option.{Option, none, some}
 use Prim.Native.Nat.{ℕ, _+_}
 use lib.Dec.{leb}
 use lib.ListN.{length}
@@ -35,6 +36,12 @@ emptiableNumber (refused n) = n
 abbrev pub countNumber : Answer ℕ → ℕ
 countNumber (gives n) = n
 countNumber (refused n) = beyond + n
+
+-- the joined tree's record count, 0 where no level has content
+abbrev pub joinedNumber : Answer (Option ℕ) → ℕ
+joinedNumber (gives (some n)) = n
+joinedNumber (gives none) = 0
+joinedNumber (refused n) = beyond + n
 
 -- 0 passes, 1 undecided, the reason's number, or 1000 + the refusal's
 abbrev pub markNumber : Answer Mark → ℕ

@@ -7,8 +7,10 @@ ghost use Rattle.totals.specs.Total.{total};
 ghost use Rattle.entries.specs.Answer.{answer, refusalAlone};
 ghost use Rattle.entries.specs.ItemAnswer.{itemBytes};
 ghost use Rattle.entries.specs.TidyAnswer.{tidyAnswer, tidyBuffer};
+ghost use Rattle.chain.specs.Answer.{chainAnswer, chainBuffer};
 ghost use Rattle.marking.specs.Answer.{markSheet};
-ghost use Rattle.exports.specs.Numbers.{markNumber, minNumber, maxNumber, emptiableNumber, countNumber, written};
+ghost use Rattle.exports.specs.Numbers.{markNumber, minNumber, maxNumber, emptiableNumber, countNumber, joinedNumber, written};
+use chain::JoinedAnswer;
 use entries::EmptiableAnswer;
 use entries::TidiedAnswer;
 use entries::TotalAnswer;
@@ -84,6 +86,20 @@ pub extern "C" fn marker_tidy(t: &[u8], out: &mut [u8]) -> u64
     match entries::tidy(t, out) {
         TidiedAnswer::Records(n) => n as u64,
         TidiedAnswer::Refused(r) => BEYOND + (intake::number(r) as u64),
+    }
+}
+
+// The record count of the chain's joined tree, which is written to the start of out, 0 where no level has content, or 2^32 + N where it
+// is refused with N; without a joined tree nothing is written, and every other byte of out keeps its value.
+#[no_mangle]
+pub extern "C" fn marker_effective_particle(chain: &[u8], out: &mut [u8]) -> u64
+    ensures { λ r. ⌜ r ≡ joinedNumber (chainAnswer (now (chain .entry)) (now (out .entry))) ⌝ }
+    ensures { λ _. ⌜ now (out .exit) ≡ chainBuffer (now (chain .entry)) (now (out .entry)) ⌝ }
+{
+    match chain::effective_particle(chain, out) {
+        JoinedAnswer::Records(n) => n as u64,
+        JoinedAnswer::NoContent => 0,
+        JoinedAnswer::Refused(r) => BEYOND + (intake::number(r) as u64),
     }
 }
 

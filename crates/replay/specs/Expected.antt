@@ -10,12 +10,13 @@ use Rattle.totals.specs.Total.{total}
 use Rattle.entries.specs.Answer.{answer, refusalAlone}
 use Rattle.entries.specs.ItemAnswer.{itemBytes}
 use Rattle.entries.specs.TidyAnswer.{tidyAnswer, tidyBuffer}
+use Rattle.chain.specs.Answer.{chainAnswer, chainBuffer}
 use Rattle.marking.specs.Answer.{markSheet}
-use Rattle.exports.specs.Numbers.{markNumber, minNumber, maxNumber, emptiableNumber, countNumber, written}
+use Rattle.exports.specs.Numbers.{markNumber, minNumber, maxNumber, emptiableNumber, countNumber, joinedNumber, written}
 use Rattle.replay.specs.declared.Operation.{Operation}
-use Rattle.replay.specs.declared.Operation.the-variants.{Mark, TotalMin, TotalMax, Emptiable, Tidy, Item}
+use Rattle.replay.specs.declared.Operation.the-variants.{Mark, TotalMin, TotalMax, Emptiable, Tidy, Item, Join}
 
--- the number that the entry answers, from the sheet or tree and the buffer
+-- the number that the entry answers, from the sheet, tree or chain and the buffer
 abbrev pub numberOf : Operation → List ℕ → List ℕ → ℕ
 numberOf Mark s out = markNumber (markSheet s)
 numberOf TotalMin t out = minNumber (answer (refusalAlone t) (total (tree t)))
@@ -23,6 +24,7 @@ numberOf TotalMax t out = maxNumber (answer (refusalAlone t) (total (tree t)))
 numberOf Emptiable t out = emptiableNumber (answer (refusalAlone t) (emptiable (tree t)))
 numberOf Tidy t out = countNumber (tidyAnswer t out)
 numberOf (Item k) t out = length (itemBytes k t)
+numberOf Join c out = joinedNumber (chainAnswer c out)
 
 -- the buffer after the call
 abbrev pub bufferOf : Operation → List ℕ → List ℕ → List ℕ
@@ -32,6 +34,7 @@ bufferOf TotalMax t out = out
 bufferOf Emptiable t out = out
 bufferOf Tidy t out = tidyBuffer t out
 bufferOf (Item k) t out = written (itemBytes k t) out
+bufferOf Join c out = chainBuffer c out
 
 -- the stored number and the stored buffer are those that the definitions give
 pub record Agrees (op : Operation) (input before : List ℕ) (number : ℕ) (after : List ℕ) : Type 0 where

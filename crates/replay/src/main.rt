@@ -3,7 +3,7 @@
 // operation that is unknown.
 //
 // The input is one case after another. A case has a head of 15 bytes, its numbers little-endian: the operation (8 bits), k (16), the length
-// of the sheet or tree (16), the length of the lent buffer (16), the answer (64). Then come the sheet or tree, the buffer before the call,
+// of the sheet, tree or chain (16), the length of the lent buffer (16), the answer (64). Then come the sheet, tree or chain, the buffer before the call,
 // and the buffer after it. The operations, and the entry that each of them asks, in the numbers of crates/exports:
 //   1  marker_mark, over marking::mark
 //   2  marker_total_min, over entries::total_range
@@ -11,6 +11,7 @@
 //   4  marker_emptiable, over entries::emptiable
 //   5  marker_tidy, over entries::tidy
 //   6  marker_item, over entries::item: the k-th item
+//   7  marker_effective_particle, over chain::effective_particle
 ghost use mathlib.Core.Path.{_≡_};
 ghost use Prim.Native.Nat.{_+_, _≤_, _<_};
 ghost use lib.ListN.{length};
@@ -36,6 +37,7 @@ enum Operation {
     Emptiable,
     Tidy,
     Item(usize),
+    Join,
 }
 
 // What an operation's number stands for.
@@ -80,6 +82,7 @@ fn asked_for(number: u8, k: usize) -> Asked {
         4 => Asked::For(Operation::Emptiable),
         5 => Asked::For(Operation::Tidy),
         6 => Asked::For(Operation::Item(k)),
+        7 => Asked::For(Operation::Join),
         _ => Asked::Nothing,
     }
 }
@@ -96,6 +99,7 @@ fn answer(op: Operation, input: &[u8], lent: &mut [u8]) -> u64
         Operation::Emptiable => exports::marker_emptiable(input) as u64,
         Operation::Tidy => exports::marker_tidy(input, lent),
         Operation::Item(k) => exports::marker_item(input, k, lent) as u64,
+        Operation::Join => exports::marker_effective_particle(input, lent),
     }
 }
 
