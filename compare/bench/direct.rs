@@ -1,11 +1,18 @@
 //! From a sheet's bytes straight to the particles and tables of the original,
-//! with no step between, as a user of the original would have to do it.
+//! from a chain's to its types, with no step between, as a user of the original
+//! would have to do it.
 
+use std::collections::HashMap;
 use std::slice::ChunksExact;
+use std::sync::Arc;
 
-use common::sheet::{self, BASE, DERIVED, LEAF_BYTES, LEAVES, NAME, PROCESSING};
+use common::chain;
+use common::sheet::{self, BASE, DERIVED, LEAF_BYTES, LEAVES, MOST_LEAVES, NAME, PROCESSING};
 use common::tree::{COUNT, KIND, Kind, LEAF, MARK, MAX, MIN, RECORD, number};
-use oracle::stubs::{CompiledSchema, ElementDef, Particle, ProcessContents, WildcardConstraint};
+use oracle::stubs::{
+    CompiledSchema, ComplexType, DerivationMethod, ElementDef, Particle, ProcessContents, TypeDef,
+    Types, WildcardConstraint,
+};
 
 /// The particles and the tables of an accepted sheet.
 pub fn particles(bytes: &[u8]) -> (Particle, Particle, CompiledSchema) {
@@ -19,6 +26,27 @@ pub fn particles(bytes: &[u8]) -> (Particle, Particle, CompiledSchema) {
     let derived = particle(&mut bytes[places.derived].chunks_exact(RECORD), leaves);
     let base = particle(&mut bytes[places.base].chunks_exact(RECORD), leaves);
     (derived, base, schema)
+}
+
+/// A chain says nothing of its leaves but their numbers and kinds.
+const NO_LEAVES: [u8; LEAF_BYTES * MOST_LEAVES] = [0; LEAF_BYTES * MOST_LEAVES];
+
+/// The types of an accepted chain, each extending the one before it; and the
+/// name of the last.
+pub fn types(bytes: &[u8]) -> (String, Types) {
+    let name = |level: usize| format!("level{level}");
+    let levels = chain::levels(bytes);
+    let mut types = HashMap::new();
+    for (level, own) in (1..).zip(&levels) {
+        let own = (!own.is_empty()).then(|| particle(&mut own.chunks_exact(RECORD), &NO_LEAVES));
+        let ct = ComplexType {
+            base_type: (level > 1).then(|| name(level - 1)),
+            derivation: (level > 1).then_some(DerivationMethod::Extension),
+            particle: own.map(Arc::new),
+        };
+        types.insert(name(level), TypeDef::Complex(ct));
+    }
+    (name(levels.len()), Types(types))
 }
 
 fn particle(records: &mut ChunksExact<u8>, leaves: &[u8]) -> Particle {

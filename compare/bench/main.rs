@@ -1,8 +1,9 @@
-//! Measures the proved library beside the original Rust: the same sheets, one
-//! program, one run; then the peers. Run it by compare/run; docs/BENCHMARK.md
+//! Measures the proved library beside the original Rust: the same sheets and
+//! chains, one program, one run; then the peers. Run it by compare/run; docs/BENCHMARK.md
 //! says what is measured. Exit status 0: measured; 1: the answers differ; 2:
 //! bad usage, or a file that could not be written.
 
+mod chains;
 // A sheet is measured only where the comparison of sheets finds no difference.
 #[path = "../sheets/check.rs"]
 mod check;
@@ -40,6 +41,9 @@ fn main() {
     print_load();
     let wanted = groups::EVERY.iter().filter(|group| options.wants(group.name));
     print_groups(wanted, &options);
+    if options.wants(chains::NAME) {
+        chains::print(options.seed, options.rounds);
+    }
     if options.wants(PEERS)
         && let Err(error) = peers::print(options.rounds)
     {
@@ -62,11 +66,12 @@ fn print_groups<'a>(groups: impl Iterator<Item = &'a Group>, options: &Options) 
     for (place, group) in groups.enumerate() {
         let subjects = subjects::ready(group.name, &group.sheets(options.seed));
         if place == 0 {
-            table::print_head();
+            table::print_head("sheets", "particles");
         }
         for (mark, part) in parts(&subjects) {
-            let times = time::measure(&part, options.rounds);
-            let row = Row { group: group.name, mark, subjects: &part, times };
+            let times = time::measure(&part, time::MARKING, options.rounds);
+            let bytes = part.iter().map(|subject| subject.bytes.len()).sum();
+            let row = Row { group: group.name, mark, count: part.len(), bytes, times };
             println!("{row}");
             if highest.is_none_or(|(ratio, _)| row.ratio() > ratio) {
                 highest = Some((row.ratio(), group.name));
@@ -110,9 +115,9 @@ fn options() -> Options {
     options
 }
 
-/// The name of a group, or of the peers.
+/// The name of a group, of the chains, or of the peers.
 fn group(name: String) -> String {
-    let names = groups::EVERY.iter().map(|group| group.name).chain([PEERS]);
+    let names = groups::EVERY.iter().map(|group| group.name).chain([chains::NAME, PEERS]);
     let names: Vec<&str> = names.collect();
     if !names.contains(&name.as_str()) {
         usage(&format!("there is no group '{name}', but: {}", names.join("; ")));

@@ -74,7 +74,7 @@ pub fn print(rounds: usize) -> std::io::Result<()> {
 fn print_ours(model: &Model, rounds: usize) {
     let subjects = subjects::ready(model.name, &[model.sheet()]);
     let subjects: Vec<&Subject> = subjects.iter().collect();
-    let times = time::measure(&subjects, rounds);
+    let times = time::measure(&subjects, time::MARKING, rounds);
     let records = format!("{} and {}", model.derived().records(), model.base().records());
     let answer = answers::text(subjects[0].mark);
     let row = |who, time: f64| {

@@ -1,14 +1,16 @@
-//! The table that is printed: a row for each group and mark.
+//! The tables that are printed: a row for each group and mark, and one for the
+//! chains.
 
 use std::fmt;
 
-use crate::subjects::Subject;
 use crate::time::Times;
 
 pub struct Row<'a> {
     pub group: &'a str,
     pub mark: &'a str,
-    pub subjects: &'a [&'a Subject],
+    /// How many sheets or chains, and their bytes in all.
+    pub count: usize,
+    pub bytes: usize,
     pub times: Times,
 }
 
@@ -17,24 +19,21 @@ impl Row<'_> {
     pub fn ratio(&self) -> f64 {
         self.times.library.least / self.times.bytes.least
     }
-
-    fn mean_bytes(&self) -> usize {
-        self.subjects.iter().map(|subject| subject.bytes.len()).sum::<usize>() / self.subjects.len()
-    }
 }
 
-pub fn print_head() {
-    print!("| group | mark | sheets | bytes ");
-    print!("| Rust, ns | Rust, particles ready, ns | Rattle, ns ");
-    println!("| ratio | ratio of medians | ratio to particles ready |");
+/// `inputs` are sheets or chains, `ready` what the Rust may find ready.
+pub fn print_head(inputs: &str, ready: &str) {
+    print!("| group | mark | {inputs} | bytes ");
+    print!("| Rust, ns | Rust, {ready} ready, ns | Rattle, ns ");
+    println!("| ratio | ratio of medians | ratio to {ready} ready |");
     println!("|---|---|---|---|---|---|---|---|---|---|");
 }
 
 impl fmt::Display for Row<'_> {
     fn fmt(&self, f: &mut fmt::Formatter<'_>) -> fmt::Result {
         let Times { ready, bytes, library } = &self.times;
-        write!(f, "| {} | {} | {} ", self.group, self.mark, self.subjects.len())?;
-        write!(f, "| {} ", self.mean_bytes())?;
+        write!(f, "| {} | {} | {} ", self.group, self.mark, self.count)?;
+        write!(f, "| {} ", self.bytes / self.count)?;
         write!(f, "| {:.0} | {:.0} | {:.0} ", bytes.least, ready.least, library.least)?;
         write!(f, "| {:.2} | {:.2} ", self.ratio(), library.median / bytes.median)?;
         write!(f, "| {:.2} |", library.least / ready.least)

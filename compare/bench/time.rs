@@ -1,4 +1,4 @@
-//! The measuring. A round goes through the sheets in batches, and each of those
+//! The measuring. A round goes through the sheets or chains in batches, and each of those
 //! who are measured has its turn at a batch before the next batch comes: what
 //! else the machine does meets all of them alike. No batch is repeated at once,
 //! as the processor would then foresee its branches.
@@ -17,27 +17,31 @@ const BATCH: usize = 25;
 const ENOUGH: Duration = Duration::from_secs(4);
 const FEWEST_ROUNDS: usize = 5;
 
-/// Nanoseconds a sheet, from the least and from the median time of each batch.
+/// Nanoseconds a sheet or chain, from the least and from the median time of each batch.
 #[derive(Clone, Copy, Default)]
 pub struct Time {
     pub least: f64,
     pub median: f64,
 }
 
-/// Those who are measured, in the order of `Times`.
-const MEASURED: [fn(&[&Subject]) -> f64; 3] = [rust_ready, rust_bytes, library];
+/// Those who are measured, in the order of `Times`: the nanoseconds that each
+/// takes for a batch.
+pub type Measured<S> = [fn(&[&S]) -> f64; 3];
+
+/// Those who mark sheets.
+pub const MARKING: Measured<Subject> = [rust_ready, rust_bytes, library];
 
 pub struct Times {
     /// The Rust, from particles that are ready.
     pub ready: Time,
-    /// The Rust, from the sheet's bytes.
+    /// The Rust, from the bytes.
     pub bytes: Time,
-    /// The library, from the sheet's bytes.
+    /// The library, from the bytes.
     pub library: Time,
 }
 
-pub fn measure(subjects: &[&Subject], rounds: usize) -> Times {
-    let batches: Vec<&[&Subject]> = subjects.chunks(BATCH).collect();
+pub fn measure<S>(subjects: &[&S], measured: Measured<S>, rounds: usize) -> Times {
+    let batches: Vec<&[&S]> = subjects.chunks(BATCH).collect();
     let mut times: Vec<[Vec<f64>; 3]> = vec![Default::default(); batches.len()];
     let start = Instant::now();
     for round in 0..rounds {
@@ -47,7 +51,7 @@ pub fn measure(subjects: &[&Subject], rounds: usize) -> Times {
         for (batch, times) in batches.iter().zip(&mut times) {
             for turn in 0..3 {
                 let who = (round + turn) % 3;
-                times[who].push(MEASURED[who](batch));
+                times[who].push(measured[who](batch));
             }
         }
     }
@@ -61,7 +65,7 @@ pub fn measure(subjects: &[&Subject], rounds: usize) -> Times {
     Times { ready, bytes, library }
 }
 
-fn nanoseconds(start: Instant) -> f64 {
+pub fn nanoseconds(start: Instant) -> f64 {
     start.elapsed().as_nanos() as f64
 }
 

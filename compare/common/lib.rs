@@ -1,8 +1,9 @@
-//! What every folder of the comparison uses: trees and sheets with their bytes,
-//! document 01's notation, the numbers of the library's answers, random
+//! What every folder of the comparison uses: trees, sheets and chains with their
+//! bytes, document 01's notation, the numbers of the library's answers, random
 //! numbers, and the command line.
 
 pub mod answers;
+pub mod chain;
 pub mod notation;
 pub mod options;
 pub mod random;

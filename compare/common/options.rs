@@ -1,10 +1,10 @@
-//! What the two comparisons are told on the command line.
+//! What the comparisons are told on the command line.
 
 use crate::tree::MOST_RECORDS;
 
 pub struct Options {
     pub seed: u64,
-    /// Random trees, or sheets.
+    /// Random trees, sheets or chains.
     pub count: u64,
     /// Damaged strings.
     pub damaged: u64,
@@ -12,12 +12,16 @@ pub struct Options {
     pub records: u64,
 }
 
+/// The run whose chains are drawn without such a bound.
+const ANY_RECORDS: &str = "chains";
+
 /// The arguments of `compare/run WHAT`, from these numbers on. Bad ones end
 /// the program with status 2.
 pub fn read(what: &str, count: u64, damaged: u64) -> Options {
+    let records = if what == ANY_RECORDS { "" } else { " [--records R]" };
     let usage = |message: &str| -> ! {
         eprintln!(
-            "{message}\nusage: compare/run {what} [--seed S] [--count N] [--damaged N] [--records R]"
+            "{message}\nusage: compare/run {what} [--seed S] [--count N] [--damaged N]{records}"
         );
         std::process::exit(2);
     };
@@ -28,7 +32,7 @@ pub fn read(what: &str, count: u64, damaged: u64) -> Options {
             "--seed" => &mut options.seed,
             "--count" => &mut options.count,
             "--damaged" => &mut options.damaged,
-            "--records" => &mut options.records,
+            "--records" if what != ANY_RECORDS => &mut options.records,
             _ => usage(&format!("unknown argument {word}")),
         };
         match words.next().map(|value| value.parse()) {

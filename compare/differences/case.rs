@@ -1,9 +1,10 @@
 //! A case of docs/DIFFERENCES.md: two trees with what the sheet says of their
-//! leaves, or one tree; and what the document states of it.
+//! leaves, or one tree, or a chain; and what the document states of it.
 
 use std::{fmt, panic};
 
 use cases::stated;
+use common::chain::Chain;
 use common::notation::parse;
 use common::sheet::{Leaf, Sheet};
 use common::tree::{Kind, Tree};
@@ -23,6 +24,8 @@ pub enum Subject {
     Tree(Tree),
     /// A tree alone that the notation does not have.
     Bytes(Vec<u8>),
+    /// A chain, and what the document states of the Rust on it, which differs.
+    Chain(Chain, String),
 }
 
 /// Two trees as they are written, with the statements beside them.
@@ -109,6 +112,7 @@ impl fmt::Display for Subject {
             }
             Subject::Tree(tree) => write!(f, "{tree}"),
             Subject::Bytes(bytes) => write!(f, "a tree of {} bytes", bytes.len()),
+            Subject::Chain(chain, _) => write!(f, "a chain of {} levels", chain.len()),
         }
     }
 }

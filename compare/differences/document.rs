@@ -15,6 +15,8 @@ const COLUMN: &str = "smallest case";
 const NO_CASE: [&str; 2] = ["none: ", "never reached "];
 const EMPTY: &str = "the empty byte string ";
 const LONG: (&str, &str) = ("a tree of ", " records ");
+const CHAIN: (&str, &str) = ("a chain of ", " levels with content in the first alone ");
+const RUST: &str = "; the Rust: ";
 const W3C: &str = "W3C";
 
 pub struct Document {
@@ -70,7 +72,7 @@ fn cells(line: &str) -> Vec<String> {
 /// The cases of a row's last cell.
 fn row(number: u32, cell: &str) -> Result<Vec<Case>, String> {
     let mut found = cases(Some(number), cell)?;
-    found.extend(in_words(number, cell));
+    found.extend(in_words(number, cell).or_else(|| of_chain(number, cell)));
     if found.is_empty() && !NO_CASE.iter().any(|start| cell.starts_with(start)) {
         return Err(format!("no case: {cell}"));
     }
@@ -96,6 +98,17 @@ fn in_words(number: u32, cell: &str) -> Option<Case> {
     };
     let (stated, _) = mark(rest)?;
     Some(Case { number: Some(number), subject: Subject::Bytes(bytes), stated, w3c: None })
+}
+
+/// A chain whose first level is the element a and the others absent, with the
+/// answer, and after it the Rust's.
+fn of_chain(number: u32, cell: &str) -> Option<Case> {
+    let (levels, rest) = cell.strip_prefix(CHAIN.0)?.split_once(CHAIN.1)?;
+    let (stated, rest) = mark(rest)?;
+    let rust = rest.strip_prefix(RUST)?.to_string();
+    let mut chain = vec![None; levels.parse().ok()?];
+    *chain.first_mut()? = Some(Tree::leaf(Kind::Element, 0, (1, Some(1))));
+    Some(Case { number: Some(number), subject: Subject::Chain(chain, rust), stated, w3c: None })
 }
 
 /// The cases of a text: a row's last cell, or another text without a number.

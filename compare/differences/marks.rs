@@ -2,11 +2,16 @@
 //! our reading of the W3C text.
 
 use common::answers::{self, BEYOND};
+use common::chain;
+use common::tree::{MOST_RECORDS, RECORD, Tree};
+use oracle::bridge;
 use w3c::{Answer, Ways};
 
 use crate::case::{Case, Paper, Subject};
 use crate::document::BY_RULES;
 use crate::search;
+
+const NO_CONTENT: &str = "no content";
 
 /// What is not as stated of a case.
 pub fn wrong(case: &Case) -> Vec<String> {
@@ -22,6 +27,10 @@ pub fn wrong(case: &Case) -> Vec<String> {
     hold("the library", &answers.library, &case.stated);
     if let Some(stated) = &case.w3c {
         hold("our reading of the W3C text", &answers.w3c, stated);
+    }
+    if let Subject::Chain(chain, stated) = &case.subject {
+        hold("the Rust", &joined(chain), stated);
+        wrong.extend(smaller(&chain[..chain.len() - 1]));
     }
     let number = case.number.filter(|number| BY_RULES.contains(number));
     if let (Some(number), Some(paper)) = (number, different(case)) {
@@ -58,6 +67,7 @@ fn answers(subject: &Subject) -> Answers {
             Answers { w3c: format!("{min}, {max}"), ..of_bytes(&tree.encode()) }
         }
         Subject::Bytes(bytes) => of_bytes(bytes),
+        Subject::Chain(chain, _) => of_chain(chain),
     }
 }
 
@@ -89,4 +99,38 @@ fn of_bytes(bytes: &[u8]) -> Answers {
         library: text(library::total_min(bytes), library::total_max(bytes)),
         w3c: "has no answer".into(),
     }
+}
+
+/// The answers on a chain; the original is the second reading where it is
+/// refused.
+fn of_chain(chain: &[Option<Tree>]) -> Answers {
+    let bytes = chain::encode(chain);
+    let text = |answer: u64, written: &[u8]| match answer.checked_sub(BEYOND) {
+        Some(number) => format!("refused {number}"),
+        None if answer == 0 => NO_CONTENT.into(),
+        None => Tree::decode(written).to_string(),
+    };
+    let mut out = vec![0; RECORD * MOST_RECORDS];
+    let expected = expected::chain::effective_particle(&bytes);
+    let (answer, written) = expected.joined_into(out.len());
+    let got = library::effective_particle(&bytes, &mut out);
+    Answers {
+        original: text(answer, written),
+        library: text(got, &out[..RECORD * (got as usize).min(MOST_RECORDS)]),
+        w3c: "has no answer".into(),
+    }
+}
+
+/// The Rust's own answer on a chain.
+fn joined(chain: &[Option<Tree>]) -> String {
+    bridge::effective_particle(chain).map_or(NO_CONTENT.into(), |tree| tree.to_string())
+}
+
+/// A chain that is one level shorter than a case: the Rust and the library must
+/// answer alike, and not that there is no content.
+fn smaller(chain: &[Option<Tree>]) -> Option<String> {
+    let (rust, library) = (joined(chain), of_chain(chain).library);
+    let wrong = rust != library || rust == NO_CONTENT;
+    let levels = chain.len();
+    wrong.then(|| format!("a chain of {levels} levels: the Rust {rust}, the library {library}"))
 }

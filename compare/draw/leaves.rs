@@ -16,12 +16,17 @@ pub struct Paper {
 
 pub fn paper(rng: &mut Rng, count: usize) -> Paper {
     let leaves = leaves(rng, count);
-    let first = table(rng, count);
-    let second = table(rng, count);
+    over(rng, leaves)
+}
+
+/// Tables over these leaves.
+pub fn over(rng: &mut Rng, leaves: Vec<Leaf>) -> Paper {
+    let first = table(rng, leaves.len());
+    let second = table(rng, leaves.len());
     Paper { leaves, first, second }
 }
 
-fn leaves(rng: &mut Rng, count: usize) -> Vec<Leaf> {
+pub fn leaves(rng: &mut Rng, count: usize) -> Vec<Leaf> {
     let wildcards_in_10 = if rng.one_in(30) { 10 } else { rng.pick(&[0, 1, 2, 2, 3, 5]) };
     let names = rng.pick(&[1, 2, 2, 3, 5, 8, 64]);
     let leaf = |place| {

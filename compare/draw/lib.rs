@@ -1,8 +1,11 @@
-//! Random inputs: accepted trees and sheets, and damaged ones. Each is drawn
-//! from a generator of its own, so that seed and number name it.
+//! Random inputs: accepted trees and sheets, chains of accepted trees, and
+//! damaged ones. Each is drawn from a generator of its own, so that seed and
+//! number name it.
 
+pub mod chains;
 pub mod change;
 mod cost;
+pub mod damaged_chains;
 pub mod damaged_sheets;
 pub mod damaged_trees;
 pub mod disguise;

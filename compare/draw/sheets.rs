@@ -53,6 +53,18 @@ fn draw(rng: &mut Rng, size: Size) -> Sheet {
     Sheet { leaves, first, second, derived, base }
 }
 
+/// A sheet over these leaves with this base, which fits them. The derived tree
+/// is a narrowed base, or a leaf where that would keep the oracle for long.
+pub fn with_base(rng: &mut Rng, leaves: Vec<Leaf>, base: Tree) -> Sheet {
+    let paper = leaves::over(rng, leaves);
+    let mut derived = narrowed(rng, &paper, &base);
+    if cost::judgements(&derived, &base) > MOST_JUDGEMENTS {
+        derived = Tree::leaf(paper.leaves[0].kind, 0, (1, Some(1)));
+    }
+    let Paper { leaves, first, second } = paper;
+    Sheet { leaves, first, second, derived, base }
+}
+
 /// A narrowed base, half of them spoiled, mostly in one place.
 fn narrowed(rng: &mut Rng, paper: &Paper, base: &Tree) -> Tree {
     let mut derived = Narrower { rng, paper }.tree(base, MOST_DEPTH);
@@ -85,7 +97,7 @@ fn tree(rng: &mut Rng, leaves: &[Leaf], size: Size) -> Tree {
 
 /// Gives each leaf of a tree a number of the sheet, of its own kind if the
 /// sheet has such a leaf. An all-group without elements loses its items.
-fn fit(rng: &mut Rng, tree: &mut Tree, leaves: &[Leaf]) {
+pub(crate) fn fit(rng: &mut Rng, tree: &mut Tree, leaves: &[Leaf]) {
     let some = |kind| leaves.iter().any(|leaf| leaf.kind == kind);
     if tree.kind == Kind::All && !some(Kind::Element) {
         tree.items.clear();

@@ -89,14 +89,23 @@ const USUAL: [Pair; 16] = [
 
 /// A tree of exactly so many records whose pairs are usual ones.
 pub fn usual_tree_of(rng: &mut Rng, records: usize) -> Tree {
+    usual_tree_within(rng, records, MOST_DEPTH)
+}
+
+fn usual_style(rng: &mut Rng) -> Style {
     use Shape::*;
     use Zeros::*;
-    let style = Style {
+    Style {
         pairs: rng.pick(&[Pairs::Usual, Pairs::Usual, Pairs::UsualOneEdgeIn(10)]),
         shape: rng.pick(&[Narrow, Wide, Mixed, Mixed, Mixed]),
         zeros: rng.pick(&[Drawn, Drawn, Drawn, Leaves(0), Leaves(30)]),
-    };
-    grow(rng, records, MOST_DEPTH, style)
+    }
+}
+
+/// The same, at most so deep; a tree of depth 1 has one record.
+pub fn usual_tree_within(rng: &mut Rng, records: usize, depth: usize) -> Tree {
+    let style = usual_style(rng);
+    grow(rng, records, depth, style)
 }
 
 /// A tree of `records` records that is at most `room` deep.

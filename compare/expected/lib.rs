@@ -2,5 +2,6 @@
 //! where the second reading finds one, and otherwise what the oracle says. The
 //! comparisons, the stored answers and the benchmark take it from here.
 
+pub mod chain;
 pub mod sheet;
 pub mod tree;

@@ -9,6 +9,12 @@ unsafe extern "C" {
     fn marker_tidy(tree: *const u8, len: usize, out: *mut u8, out_len: usize) -> u64;
     fn marker_item(tree: *const u8, len: usize, k: usize, out: *mut u8, out_len: usize) -> usize;
     fn marker_mark(sheet: *const u8, len: usize) -> u32;
+    fn marker_effective_particle(
+        chain: *const u8,
+        chain_len: usize,
+        out: *mut u8,
+        out_len: usize,
+    ) -> u64;
 }
 
 /// The total range's minimum; or `BEYOND` + N where the tree is refused with N.
@@ -46,4 +52,12 @@ pub fn tidy(tree: &[u8], out: &mut [u8]) -> u64 {
 #[inline]
 pub fn mark(sheet: &[u8]) -> u32 {
     unsafe { marker_mark(sheet.as_ptr(), sheet.len()) }
+}
+
+/// The record count of the joined tree, which is written to the start of
+/// `out`, and 0 for 'no content'; or `BEYOND` + N where it is refused with N,
+/// and nothing is written.
+#[inline]
+pub fn effective_particle(chain: &[u8], out: &mut [u8]) -> u64 {
+    unsafe { marker_effective_particle(chain.as_ptr(), chain.len(), out.as_mut_ptr(), out.len()) }
 }

@@ -1,11 +1,18 @@
-//! From a tree to the oracle's particle, and back; from a sheet to its mark.
+//! From a tree to the oracle's particle, and back; from a sheet to its mark;
+//! from a chain to its joined tree.
+
+use std::collections::HashMap;
+use std::sync::Arc;
 
 use common::sheet::Sheet;
 use common::tree::{Kind, Tree};
 
 use crate::doors;
 use crate::reasons::Mark;
-use crate::stubs::{CompiledSchema, ElementDef, Particle, ProcessContents, WildcardConstraint};
+use crate::stubs::{
+    CompiledSchema, ComplexType, DerivationMethod, ElementDef, Particle, ProcessContents, TypeDef,
+    Types, WildcardConstraint,
+};
 
 /// What a sheet says of its leaves, by leaf number. A tree alone needs none of
 /// it: see `Leaves::none`.
@@ -75,6 +82,30 @@ pub fn mark(sheet: &Sheet) -> Mark {
         second: sheet.second.clone(),
     };
     doors::mark(&leaves.particle(&sheet.derived), &leaves.particle(&sheet.base), &schema)
+}
+
+/// The oracle's content of the last type of a chain; nothing is 'no content'.
+pub fn effective_particle(chain: &[Option<Tree>]) -> Option<Tree> {
+    let (last, types) = types(chain);
+    let Some(TypeDef::Complex(last)) = types.get_type(&last) else { panic!("no level") };
+    doors::effective_particle(last, &types).as_ref().map(tree)
+}
+
+/// The types of a chain, root type first, each extending the one before it;
+/// and the name of the last.
+pub fn types(chain: &[Option<Tree>]) -> (String, Types) {
+    let name = |level: usize| format!("level{level}");
+    let mut types = HashMap::new();
+    for (level, own) in (1..).zip(chain) {
+        let extends = level > 1;
+        let ct = ComplexType {
+            base_type: extends.then(|| name(level - 1)),
+            derivation: extends.then_some(DerivationMethod::Extension),
+            particle: own.as_ref().map(|own| Arc::new(Leaves::none().particle(own))),
+        };
+        types.insert(name(level), TypeDef::Complex(ct));
+    }
+    (name(chain.len()), Types(types))
 }
 
 /// The tree of a particle.

@@ -4,7 +4,7 @@
 
 use super::Verdict;
 use crate::reasons::{self, Mark};
-use crate::stubs::{CompiledSchema, Particle};
+use crate::stubs::{CompiledSchema, ComplexType, Particle, Types};
 
 /// The first table's verdict on two elements.
 pub(super) fn first(derived: u8, base: u8, schema: &CompiledSchema) -> Verdict {
@@ -58,4 +58,9 @@ pub fn emptiable(p: &Particle) -> bool {
 
 pub fn effective_total_range(p: &Particle) -> (u32, Option<u32>) {
     super::effective_total_range(p)
+}
+
+/// The content of a type with what it inherits, as `check_restriction` asks.
+pub fn effective_particle(ct: &ComplexType, types: &Types) -> Option<Particle> {
+    super::effective_particle(ct, types, 0)
 }

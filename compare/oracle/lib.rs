@@ -1,6 +1,6 @@
 //! The oracle: the original Rust, patched by build-oracle, over our stub types.
 //! `doors` hands out its functions, `bridge` makes its particles from trees and
-//! sheets.
+//! sheets, and its types from chains.
 
 pub mod bridge;
 pub mod reasons;

@@ -2,6 +2,9 @@
 //! those that the used functions need, and what ties a particle to a sheet: a
 //! leaf number on each leaf, and the two verdict tables in the schema.
 
+use std::collections::HashMap;
+use std::sync::Arc;
+
 /// An element declaration: its name is the local name number, written out.
 #[derive(Debug, Clone)]
 pub struct ElementDef {
@@ -43,4 +46,33 @@ pub struct CompiledSchema {
     pub leaves: usize,
     pub first: Vec<u8>,
     pub second: Vec<u8>,
+}
+
+/// The other part of a schema, its types by name. It stands apart, so that a
+/// marking, which looks none up, does not carry it.
+pub struct Types(pub HashMap<String, TypeDef>);
+
+impl Types {
+    pub fn get_type(&self, qname: &str) -> Option<&TypeDef> {
+        self.0.get(qname)
+    }
+}
+
+pub enum TypeDef {
+    /// No chain has one, but the original asks.
+    Simple(()),
+    Complex(ComplexType),
+}
+
+pub struct ComplexType {
+    pub base_type: Option<String>,
+    /// `None` for a type that is derived from none.
+    pub derivation: Option<DerivationMethod>,
+    /// The type's own content, without what it inherits.
+    pub particle: Option<Arc<Particle>>,
+}
+
+#[derive(Debug, Clone, Copy, PartialEq, Eq)]
+pub enum DerivationMethod {
+    Extension,
 }

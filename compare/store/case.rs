@@ -10,11 +10,22 @@ pub enum Operation {
     Emptiable = 4,
     Tidy = 5,
     Item = 6,
+    EffectiveParticle = 7,
 }
 
 impl Operation {
-    pub const EVERY: [Operation; 6] = [
+    pub const EVERY: [Operation; 7] = [
         Operation::Mark,
+        Operation::TotalMin,
+        Operation::TotalMax,
+        Operation::Emptiable,
+        Operation::Tidy,
+        Operation::Item,
+        Operation::EffectiveParticle,
+    ];
+
+    /// Those that ask an entry for one tree.
+    pub const OF_TREE: [Operation; 5] = [
         Operation::TotalMin,
         Operation::TotalMax,
         Operation::Emptiable,
@@ -30,6 +41,7 @@ impl Operation {
             Operation::Emptiable => "emptiable",
             Operation::Tidy => "tidy",
             Operation::Item => "item",
+            Operation::EffectiveParticle => "effective particle",
         }
     }
 }
@@ -39,7 +51,7 @@ pub struct Case {
     pub operation: Operation,
     /// The item that is asked for, 0 elsewhere.
     pub k: u16,
-    /// The sheet or tree.
+    /// The sheet, tree or chain.
     pub input: Vec<u8>,
     /// The lent buffer, empty where the operation takes none.
     pub before: Vec<u8>,

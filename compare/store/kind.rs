@@ -1,6 +1,7 @@
 //! The words that tell stored answers of one kind from those of another.
 
 use common::answers::{self, BEYOND, REFUSED};
+use common::chain;
 use common::sheet::Sheet;
 use common::tree::{Kind, Tree};
 use oracle::bridge::{self, Leaves};
@@ -26,6 +27,7 @@ pub fn of(case: &Case) -> String {
             None => "changed".into(),
         },
         Operation::Item => item(case).into(),
+        Operation::EffectiveParticle => joined(case),
     }
 }
 
@@ -49,6 +51,18 @@ fn item(case: &Case) -> &'static str {
         "too long"
     } else {
         "written"
+    }
+}
+
+fn joined(case: &Case) -> String {
+    match case.answer.checked_sub(BEYOND) {
+        Some(number) => format!("refused {number}"),
+        None => match chain::levels(&case.input).iter().filter(|own| !own.is_empty()).count() {
+            0 => "no content".into(),
+            1 => "one tree".into(),
+            2 => "two trees".into(),
+            _ => "more trees".into(),
+        },
     }
 }
 

@@ -6,6 +6,7 @@
 //! itself is at fault.
 
 mod case;
+mod chains;
 mod kind;
 mod shares;
 mod sheets;
@@ -23,6 +24,7 @@ fn main() {
     let mut stored = Stored::default();
     sheets::store(&mut stored, seed);
     trees::store(&mut stored, seed);
+    chains::store(&mut stored, seed);
     let mut bytes = Vec::new();
     for case in &stored.cases {
         case.write(&mut bytes);
@@ -31,8 +33,11 @@ fn main() {
     write(ANSWERS, &bytes);
     write(PRINTED, format!("{count} agreed, 0 differ\n").as_bytes());
     report(&stored);
-    let (sheets, calls, trees) = stored.inputs();
-    println!("{sheets} sheets to mark, {calls} calls of the other entries over {trees} trees");
+    let (sheets, chains, calls, trees) = stored.inputs();
+    println!(
+        "{sheets} sheets to mark, {calls} calls of the entries for one tree over {trees} trees, \
+         {chains} chains to join"
+    );
     println!("wrote {count} answers, {} bytes, to {ANSWERS}", bytes.len());
 }
 

@@ -22,6 +22,8 @@ pub enum Round {
     DeepSheets,
     Trees,
     DamagedTrees,
+    Chains,
+    DamagedChains,
 }
 
 impl Round {
@@ -56,13 +58,15 @@ impl Stored {
         counts
     }
 
-    /// How many sheets are marked, how many cases ask another entry, and over
-    /// how many trees these are.
-    pub fn inputs(&self) -> (usize, usize, usize) {
-        let (sheets, others): (Vec<&Case>, Vec<&Case>) =
-            self.cases.iter().partition(|case| case.operation == Operation::Mark);
+    /// How many sheets are marked, how many chains are joined, how many cases
+    /// ask an entry for one tree, and over how many trees these are.
+    pub fn inputs(&self) -> (usize, usize, usize, usize) {
+        let of = |operation| self.cases.iter().filter(move |case| case.operation == operation);
+        let sheets = of(Operation::Mark).count();
+        let chains = of(Operation::EffectiveParticle).count();
+        let others: Vec<&Case> = Operation::OF_TREE.into_iter().flat_map(of).collect();
         let trees: HashSet<&[u8]> = others.iter().map(|case| &case.input[..]).collect();
-        (sheets.len(), others.len(), trees.len())
+        (sheets, chains, others.len(), trees.len())
     }
 
     /// Draws so many times, and stores at most so many cases of each fine kind.

@@ -110,7 +110,7 @@ fn item(rng: &mut Rng, bytes: &[u8], answers: &Answers) -> Case {
 }
 
 /// The length of a buffer for so many bytes: as long, longer, shorter.
-fn room(rng: &mut Rng, length: usize) -> usize {
+pub fn room(rng: &mut Rng, length: usize) -> usize {
     match rng.below(4) {
         0 => length,
         1 => length + rng.within(1, 9),
@@ -120,7 +120,7 @@ fn room(rng: &mut Rng, length: usize) -> usize {
 }
 
 /// A case with a lent buffer of any bytes, to whose start is written.
-fn lent(
+pub fn lent(
     rng: &mut Rng,
     operation: Operation,
     k: u16,
