@@ -7,7 +7,8 @@
  * promises, over the numbers of crates/exports/specs/Numbers.antt. The
  * contracts ask nothing of the bytes: every byte string is an input, and a bad
  * one is refused by number. 'Document 01' is the specification of sheets,
- * trees, marks and refusals; docs/KEY.md lists its rules.
+ * trees, marks and refusals, document 02 that of chains; docs/KEY.md lists
+ * their rules.
  *
  * A SLICE is a pointer and, right after it, a length in bytes. The proofs
  * suppose of each slice what its type says, and the caller must see to it:
@@ -19,7 +20,7 @@
  * - Where the length is 0 nothing is read or written, and the pointer may be
  *   null or dangling.
  * - Any address will do: bytes have no alignment.
- * - `out` shares no byte with `tree`.
+ * - `out` shares no byte with `tree` or `chain`.
  * - Until the call returns, nothing else (a thread, a signal handler) writes
  *   the bytes of a slice, or reads those of `out`.
  *
@@ -47,11 +48,14 @@
 extern "C" {
 #endif
 
-/* Lengths in bytes (document 01, 'The exam sheet'). */
+/* Lengths in bytes (docs/LAYOUT.md). */
 #define MARKER_RECORD 12         /* one record of a tree */
 #define MARKER_MOST_TREE 3060    /* the longest tree, of 255 records */
 #define MARKER_LEAST_SHEET 38    /* the shortest sheet */
 #define MARKER_MOST_SHEET 14576  /* the longest sheet */
+#define MARKER_MOST_CHAIN 3095   /* the longest chain that is joined */
+
+#define MARKER_MOST_LEVELS 17    /* the levels of a chain, at most */
 
 /* What marker_mark answers besides a reason. */
 #define MARKER_PASSES UINT32_C(0)
@@ -61,6 +65,9 @@ extern "C" {
 /* What marker_emptiable answers besides a refusal. */
 #define MARKER_NOT_EMPTIABLE UINT32_C(0)
 #define MARKER_EMPTIABLE UINT32_C(1)
+
+/* What marker_effective_particle answers where no level is present. */
+#define MARKER_NO_CONTENT UINT64_C(0)
 
 /* 2^32, which no minimum, bounded maximum or record count reaches. */
 #define MARKER_BEYOND UINT64_C(4294967296)  /* added to a refusal's number */
@@ -128,13 +135,13 @@ enum marker_reason {
     MARKER_MOST_SET = 152
 };
 
-/* Why a sheet or a tree is refused, in docs/KEY.md's words. */
+/* Why a sheet, a tree or a chain is refused, in docs/KEY.md's words. */
 enum marker_refusal {
     /* the caller's mistake: sheet under 8 bytes, a contents field out of its
      * range, or total field or actual length unlike the formula */
     MARKER_REFUSAL_CONTENTS = 1,
-    /* the caller's mistake: buffer shorter than the tree handed in, which no
-     * sheet shows */
+    /* the caller's mistake: buffer shorter than the tree handed in, or than
+     * the joined tree, which no sheet shows */
     MARKER_REFUSAL_BUFFER = 2,
     /* the examiner's mistake: the fields of a leaf are out of order */
     MARKER_REFUSAL_LEAF = 3,
@@ -168,7 +175,12 @@ enum marker_refusal {
     MARKER_REFUSAL_DERIVED_DEPTH = 13,
     /* the candidate's mistake: derived tree, or a tree alone, the item
      * counts need fewer or more records */
-    MARKER_REFUSAL_DERIVED_COUNTS = 14
+    MARKER_REFUSAL_DERIVED_COUNTS = 14,
+    /* the caller's mistake: chain of 0 or over 17 levels, or of a length
+     * unlike its counts */
+    MARKER_REFUSAL_CHAIN = 15,
+    /* the examiner's mistake: joined tree over 255 records or depth 12 */
+    MARKER_REFUSAL_LIMIT = 16
 };
 
 /*
@@ -222,6 +234,29 @@ uint32_t marker_emptiable(const uint8_t *tree, size_t tree_len);
 uint64_t marker_tidy(const uint8_t *tree, size_t tree_len, uint8_t *out, size_t out_len);
 
 /*
+ * Joins a chain of trees that extend one another, root type first, into `out`.
+ *
+ * A chain is one byte of levels, 1 to MARKER_MOST_LEVELS, then a 16-bit record
+ * count for each level, the lower byte first, 0 where its tree is absent, then
+ * the records of the trees that are present, one tree after another. Present
+ * and present gives a (1,1) sequence of the two, inherited first; one present
+ * gives that one. Each further level extends what comes of all before it.
+ *
+ * Returns the joined tree's record count n. Its MARKER_RECORD * n bytes stand
+ * at the start of `out`, and every later byte of `out` keeps its value. Or
+ * returns MARKER_NO_CONTENT where no level is present; then `out` may have any
+ * length, and every byte of it keeps its value.
+ *
+ * Or returns MARKER_BEYOND + N where it is refused with N, and every byte of
+ * `out` keeps its value: 15 for the chain, then 10 to 14 for the first tree
+ * that is refused alone, then 16 for a joined tree over the limits, then 2
+ * where out_len is below the joined tree's length. From out_len =
+ * MARKER_MOST_TREE on there is no refusal 2.
+ */
+uint64_t marker_effective_particle(const uint8_t *chain, size_t chain_len, uint8_t *out,
+                                   size_t out_len);
+
+/*
  * Copies the k-th item of a tree's root, from 0, to `out`.
  *
  * Returns the item's length in bytes, or 0 where the tree is refused or k is
@@ -239,7 +274,8 @@ static inline uint32_t marker_mark_refusal(uint32_t mark)
     return mark > MARKER_REFUSED ? mark - MARKER_REFUSED : 0;
 }
 
-/* The same for marker_total_min, marker_total_max and marker_tidy. */
+/* The same for marker_total_min, marker_total_max, marker_tidy and
+ * marker_effective_particle. */
 static inline uint32_t marker_number_refusal(uint64_t number)
 {
     return number > MARKER_BEYOND ? (uint32_t)(number - MARKER_BEYOND) : 0;

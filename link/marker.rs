@@ -7,7 +7,8 @@
 //! function promises is what the contracts in crates/exports/src/lib.rt
 //! promise; link/marker.h words them one by one and says what holds of threads,
 //! stack and time. What a caller in C must see to, Rust's types see to here.
-//! 'Document 01' is the specification of sheets, trees, marks and refusals.
+//! 'Document 01' is the specification of sheets, trees, marks and refusals,
+//! document 02 that of chains.
 
 // A program may use a part of it.
 #![allow(dead_code)]
@@ -22,6 +23,12 @@ extern "C" {
     fn marker_total_max(tree: *const u8, tree_len: usize) -> u64;
     fn marker_emptiable(tree: *const u8, tree_len: usize) -> u32;
     fn marker_tidy(tree: *const u8, tree_len: usize, out: *mut u8, out_len: usize) -> u64;
+    fn marker_effective_particle(
+        chain: *const u8,
+        chain_len: usize,
+        out: *mut u8,
+        out_len: usize,
+    ) -> u64;
     fn marker_item(
         tree: *const u8,
         tree_len: usize,
@@ -40,10 +47,17 @@ pub const MOST_TREE: usize = 3060;
 /// The length in bytes of the longest sheet.
 pub const MOST_SHEET: usize = 14576;
 
+/// The length in bytes of the longest chain that is joined.
+pub const MOST_CHAIN: usize = 3095;
+
+/// A chain has at most so many levels.
+pub const MOST_LEVELS: usize = 17;
+
 // Added to the number of a sheet's refusal.
 const REFUSED: u32 = 1000;
 
-// 2^32: an unbounded maximum; and added to the number of a tree's refusal.
+// 2^32: an unbounded maximum; and added to the number of a tree's or chain's
+// refusal.
 const BEYOND: u64 = 1 << 32;
 
 /// The mark of a sheet. It displays as the line that the marking program
@@ -71,7 +85,7 @@ impl fmt::Display for Mark {
     }
 }
 
-// A type of document 01's numbers: a constant for each, whose words are its
+// A type of docs/KEY.md's numbers: a constant for each, whose words are its
 // documentation and what it displays as; other numbers display as $other.
 macro_rules! numbers {
     ($(#[$doc:meta])* $type:ident, $other:literal: $($number:literal $name:ident $words:literal)*) => {
@@ -85,7 +99,7 @@ macro_rules! numbers {
                 pub const $name: $type = $type($number);
             )*
 
-            /// Document 01's number.
+            /// Its number in docs/KEY.md.
             pub fn number(self) -> u32 {
                 self.0
             }
@@ -137,13 +151,14 @@ numbers! {
 }
 
 numbers! {
-    /// Why a sheet or a tree is refused: 1 to 14. A tree alone is refused as a
-    /// derived tree is. It displays as the words of docs/KEY.md.
-    Refusal, "no refusal of document 01":
+    /// Why a sheet, a tree or a chain is refused: 1 to 16. A tree alone, or of a
+    /// chain, is refused as a derived tree is. It displays as the words of
+    /// docs/KEY.md.
+    Refusal, "no refusal of docs/KEY.md":
     1 CONTENTS
         "the caller's mistake: sheet under 8 bytes, a contents field out of its range, or total \
          field or actual length unlike the formula"
-    2 BUFFER "the caller's mistake: buffer shorter than the tree handed in, which no sheet shows"
+    2 BUFFER "the caller's mistake: buffer shorter than the tree handed in, or than the joined tree, which no sheet shows"
     3 LEAF "the examiner's mistake: the fields of a leaf are out of order"
     4 VERDICT "the examiner's mistake: a verdict that is not 0, 1 or 140 to 152"
     5 BASE_FIELDS "the examiner's mistake: base tree, the fields of a record are out of order"
@@ -166,6 +181,9 @@ numbers! {
     14 DERIVED_COUNTS
         "the candidate's mistake: derived tree, or a tree alone, the item counts need fewer or \
          more records"
+    15 CHAIN
+        "the caller's mistake: chain of 0 or over 17 levels, or of a length unlike its counts"
+    16 LIMIT "the examiner's mistake: joined tree over 255 records or depth 12"
 }
 
 /// A total range: its least and its greatest number.
@@ -235,6 +253,21 @@ pub fn tidy(tree: &[u8], out: &mut [u8]) -> Result<usize, Refusal> {
     Ok(unless_refused(count)? as usize)
 }
 
+/// Joins a chain of trees that extend one another, root type first, into `out`
+/// and gives the joined tree's record count n; `None` where no level is present.
+/// The tree is `out[..RECORD * n]`, and every other byte of `out` keeps its
+/// value. Refused with 15, then with 10 to 14 for the first tree that is refused
+/// alone, then with 16, then with 2 where `out` is shorter than the joined tree,
+/// and then every byte of `out` keeps its value.
+pub fn effective_particle(chain: &[u8], out: &mut [u8]) -> Result<Option<usize>, Refusal> {
+    let (lent, len) = (out.as_mut_ptr(), out.len());
+    // SAFETY: as in `tidy`.
+    let count = unsafe { marker_effective_particle(chain.as_ptr(), chain.len(), lent, len) };
+    // At most 255 records.
+    let count = unless_refused(count)? as usize;
+    Ok(if count == 0 { None } else { Some(count) })
+}
+
 /// Copies the k-th item of a tree's root, from 0, to the start of `out`, and
 /// gives its length in bytes; 0 where the tree is refused or k is not below the
 /// item count. Every later byte of `out` keeps its value, and every byte of
@@ -266,11 +299,11 @@ pub fn item(tree: &[u8], k: usize) -> Option<&[u8]> {
     }
 }
 
-// The number, unless it stands for a tree's refusal.
+// The number, unless it stands for a tree's or chain's refusal.
 fn unless_refused(number: u64) -> Result<u64, Refusal> {
     match number.checked_sub(BEYOND) {
         None | Some(0) => Ok(number),
-        // Refusals are 1 to 14.
+        // Refusals are 1 to 16.
         Some(refusal) => Err(Refusal(refusal as u32)),
     }
 }

@@ -7,11 +7,11 @@
 #include <stdio.h>
 #include <string.h>
 
-#include "marker.h"
+#include "test.h"
 
 static unsigned long checks, differences;
 
-static void check(const char *what, uint64_t expected, uint64_t got)
+void check(const char *what, uint64_t expected, uint64_t got)
 {
     checks++;
     if (expected != got) {
@@ -23,10 +23,7 @@ static void check(const char *what, uint64_t expected, uint64_t got)
 
 /* Records. */
 
-enum { ELEMENT, WILDCARD, SEQUENCE, CHOICE, ALL };
 enum { KIND, LEAF, COUNT, UNBOUNDED, MIN, MAX = 8 };
-
-static const int64_t STAR = -1; /* a maximum: unbounded */
 
 static void put_number(uint8_t *at, uint32_t number)
 {
@@ -35,8 +32,7 @@ static void put_number(uint8_t *at, uint32_t number)
     }
 }
 
-/* Writes a record and returns the place after it. */
-static uint8_t *record(uint8_t *at, int kind, int leaf, int count, uint32_t min, int64_t max)
+uint8_t *record(uint8_t *at, int kind, int leaf, int count, uint32_t min, int64_t max)
 {
     at[KIND] = (uint8_t)kind;
     at[LEAF] = (uint8_t)leaf;
@@ -47,8 +43,7 @@ static uint8_t *record(uint8_t *at, int kind, int leaf, int count, uint32_t min,
     return at + MARKER_RECORD;
 }
 
-/* Writes an element below so many (1,1) groups and returns the place after it. */
-static uint8_t *element_below(uint8_t *at, int groups)
+uint8_t *element_below(uint8_t *at, int groups)
 {
     while (groups-- > 0) {
         at = record(at, CHOICE, 0, 1, 1, 1);
@@ -58,7 +53,7 @@ static uint8_t *element_below(uint8_t *at, int groups)
 
 /* Lent buffers: `out` stands between guards; every byte has a value of its own. */
 
-enum { GUARD = 16, ROOM = 64, WHOLE = GUARD + ROOM + GUARD };
+enum { GUARD = 16, WHOLE = GUARD + ROOM + GUARD };
 
 static uint8_t lent[WHOLE];
 
@@ -67,7 +62,7 @@ static uint8_t before(size_t place)
     return (uint8_t)(7 * place + 3);
 }
 
-static uint8_t *lend(void)
+uint8_t *lend(void)
 {
     for (size_t place = 0; place < WHOLE; place++) {
         lent[place] = before(place);
@@ -75,8 +70,7 @@ static uint8_t *lend(void)
     return lent + GUARD;
 }
 
-/* So many bytes stand at the start of out, and every other byte is as before. */
-static void check_lent(const char *what, const uint8_t *bytes, size_t count)
+void check_lent(const char *what, const uint8_t *bytes, size_t count)
 {
     size_t differing = 0;
     for (size_t place = 0; place < WHOLE; place++) {
@@ -311,6 +305,7 @@ int main(void)
     test_emptiable();
     test_refused_trees();
     test_tidying();
+    test_chains();
     test_items();
     test_longest();
     test_helpers();

@@ -2,6 +2,7 @@
 //! byte of a lent buffer.
 
 mod marker;
+mod test_chains;
 
 use marker::{
     copy_item, emptiable, item, mark, tidy, total_range, Mark, Maximum, Range, Reason, Refusal,
@@ -268,10 +269,16 @@ fn copied_items() {
     assert_eq!(out, pattern(64));
 }
 
-/// S[a,a,..] of 255 records, alone and as both trees of the longest sheet.
+/// S[a,a,..] of so many records.
+fn row(records: usize) -> Vec<u8> {
+    let items = records - 1;
+    [once(SEQUENCE, 0, items as u8).to_vec(), once(ELEMENT, 0, 0).repeat(items)].concat()
+}
+
+/// A tree of 255 records, alone and as both trees of the longest sheet.
 #[test]
 fn longest() {
-    let tree = [once(SEQUENCE, 0, 254).to_vec(), once(ELEMENT, 0, 0).repeat(254)].concat();
+    let tree = row(255);
     let leaves_and_tables = vec![0; 64 * 4 + 2 * 64 * 64];
     let contents = vec![64, 255, 255, 0, 0xf0, 0x38, 0, 0];
     let sheet = [contents, leaves_and_tables, tree.clone(), tree.clone()].concat();
@@ -289,7 +296,7 @@ fn words() {
     assert_eq!(mark(&[]).to_string(), "refused 1");
     assert_eq!(Reason::MIN_BELOW.to_string(), "element, element: the minimum is below the base's");
     let words =
-        "the caller's mistake: buffer shorter than the tree handed in, which no sheet shows";
+        "the caller's mistake: buffer shorter than the tree handed in, or than the joined tree, which no sheet shows";
     assert_eq!(Refusal::BUFFER.to_string(), words);
     let Mark::Fails(set) = changed(&[(FIRST, 140)]) else { panic!("140 is a reason") };
     assert_eq!(set.to_string(), "a reason that the paper sets");
