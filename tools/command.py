@@ -1,21 +1,26 @@
-"""The command `tools/paper`: its three uses, what each reads and prints."""
+"""The command `tools/paper`: its four uses, what each reads and prints."""
 
 import argparse
 import os
 import sys
 
+import chain
 import draft
+import joiner
 import layout
 import marker
 import printed
 import refusals
 from faults import PaperError
+from notation import tree_text
+from proved import NoAnswer
 from usage import DESCRIPTION, EPILOG
 
 FINE, WRONG, UNUSABLE = 0, 1, 2
 # Stands for standard input and standard output.
 STANDARD = "-"
 STANDARD_INPUT, STANDARD_OUTPUT = 0, 1
+NO_CONTENT = "no content"
 
 
 class Stop(Exception):
@@ -47,6 +52,7 @@ def arguments():
         ("write", write, "a paper as text becomes a sheet"),
         ("read", read, "a sheet becomes a paper as text, with its mark in words"),
         ("mark", mark, "a paper as text gets its mark in words"),
+        ("join", join, "a chain of trees, alone or as a paper's base, becomes one tree"),
     ):
         sub = uses.add_parser(name, help=text, description=text)
         sub.add_argument("file", metavar="FILE", nargs="?", default=STANDARD,
@@ -54,15 +60,15 @@ def arguments():
         if use is write:
             sub.add_argument("-o", dest="output", metavar="SHEET", default=STANDARD,
                              help="the file for the sheet in place of standard output")
+        if use is join:
+            sub.add_argument("-o", dest="output", metavar="TREE",
+                             help="a file for the tree's bytes in place of its notation")
         sub.set_defaults(use=use)
     return parser
 
 
 def write(options):
-    data = sheet_of(options.file)
-    if options.output == STANDARD and os.isatty(STANDARD_OUTPUT):
-        raise Stop(UNUSABLE, "a sheet is not for the terminal: give -o SHEET, or redirect")
-    put(data, options.output)
+    put_bytes(sheet_of(options.file), options.output, "sheet")
     return FINE
 
 
@@ -85,12 +91,56 @@ def mark(options):
     return FINE
 
 
+def join(options):
+    text, paper = described(options.file, lambda text: draft.read(text, alone=True))
+    tree = checked_join(paper)
+    if options.output is None:
+        put_text(f"{NO_CONTENT}\n" if tree is None else with_joined(text, paper, tree))
+    elif tree is None:
+        raise Stop(WRONG, f"{NO_CONTENT}: there is no tree to write")
+    else:
+        put_bytes(layout.encode_tree(tree), options.output, "tree")
+    return FINE
+
+
+def with_joined(text, paper, tree):
+    """The paper's text with its joined tree in the chain's place."""
+    lines = text.split("\n")
+    first, last = paper.chain.first, paper.chain.last
+    line = lines[first.line - 1]
+    before, after = line[:first.column - 1], line[last.column - 1 + len(last.text):]
+    lines[first.line - 1] = before + tree_text(tree, paper.names) + after
+    return "\n".join(lines).rstrip("\n") + "\n"
+
+
+def checked_join(paper):
+    """The joining program's tree, None for no content; it must be the one that
+    this aid makes."""
+    def words(tree):
+        return NO_CONTENT if tree is None else tree_text(tree, paper.names)
+
+    def differ(there):
+        return Stop(WRONG, f"the chain gives {words(here)} by this aid, {there} by the joining "
+                    "program")
+
+    here = chain.join(paper.chain.levels)
+    try:
+        tree = joiner.join(paper.chain.levels, paper.leaves)
+    except NoAnswer as none:
+        raise Stop(UNUSABLE, f"no joined tree: {none}") from none
+    except refusals.Refused as refused:
+        raise differ(f"refused {refused.number}") from refused
+    if tree != here:
+        raise differ(words(tree))
+    return tree
+
+
 def checked_mark(data, refusal=None):
     """The marking program's mark; it must refuse what is refused here, by the
     same number, and nothing else."""
     try:
         given = marker.mark(data)
-    except marker.NoMark as none:
+    except NoAnswer as none:
         raise Stop(UNUSABLE, f"no mark: {none}") from none
     here = str(refusal) if refusal else "accepted"
     there = str(given) if given.word == "refused" else "accepted"
@@ -101,10 +151,16 @@ def checked_mark(data, refusal=None):
 
 def sheet_of(name):
     """The bytes of the sheet that a paper describes."""
+    _, sheet = described(name, lambda text: draft.parse(text, checked_join))
+    return layout.encode(sheet)
+
+
+def described(name, read):
+    """A paper's text, and what this reads from it."""
     shown = "<stdin>" if name == STANDARD else name
     text = decoded(content(name), shown)
     try:
-        return layout.encode(draft.parse(text))
+        return text, read(text)
     except PaperError as error:
         raise Stop(WRONG, error.report(shown, text)) from error
 
@@ -126,6 +182,13 @@ def content(name):
     except OSError as error:
         shown = "standard input" if name == STANDARD else name
         raise Stop(UNUSABLE, f"{shown}: {error.strerror}") from error
+
+
+def put_bytes(data, name, what):
+    if name == STANDARD and os.isatty(STANDARD_OUTPUT):
+        raise Stop(UNUSABLE, f"a {what} is not for the terminal: give -o {what.upper()}, "
+                   "or redirect")
+    put(data, name)
 
 
 def put(data, name):

@@ -1,45 +1,84 @@
 """The sheet that a paper's text describes: document 01's defaults (equal
 letters ok, others 140), changed by the statements."""
 
+from typing import List, NamedTuple, Optional
+
+import chain
 from faults import PaperError, Token
 from notation import LeafNames, TreeReader, leaf_kind
 from scanner import Scanner
-from sheet import Kind, Sheet, usual_leaf, usual_table
+from sheet import Kind, Leaf, Sheet, Tree, usual_leaf, usual_table
 from statements import LeafList, NameNumber, ProcessContents, read_statement
 
 # The leaf of a paper whose trees have none: a sheet has at least one.
 ONLY_LEAF = "a"
+TWO_TREES = "two trees, DERIVED | BASE"
 
 
-def parse(text):
-    """The sheet; raises PaperError at the first fault."""
+class Paper(NamedTuple):
+    """What a text says, before the levels in the base place are joined."""
+
+    # The leaves' letters and numbers, in the order of the leaf numbers.
+    names: List[str]
+    leaves: List[Leaf]
+    first: List[List[int]]
+    second: List[List[int]]
+    # None where the text has no derived tree.
+    derived: Optional[Tree]
+    chain: chain.Chain
+
+    def sheet(self, base):
+        return Sheet(self.leaves, self.first, self.second, self.derived, base)
+
+
+def parse(text, join=lambda paper: chain.join(paper.chain.levels)):
+    """The sheet, its base joined so where it is a chain; raises PaperError at
+    the first fault."""
+    paper = read(text)
+    levels = paper.chain.levels
+    return paper.sheet(levels[0] if len(levels) == 1 else join(paper))
+
+
+def read(text, alone=False):
+    """What the text says; ``alone`` lets it leave out the derived tree. Raises
+    PaperError at the first fault."""
     lines = text.split("\n")
     scanners = [Scanner(line, number) for number, line in enumerate(lines, 1)]
     scanners = [scanner for scanner in scanners if not scanner.is_blank]
     if not scanners:
         end = Token("", len(lines), 1)
-        raise PaperError(end, "two trees, DERIVED | BASE", "the end of the paper")
+        wanted = f"a chain, or {TWO_TREES}" if alone else TWO_TREES
+        raise PaperError(end, wanted, "the end of the paper")
     names = LeafNames()
-    derived, base = read_trees(scanners[0], names)
+    derived, base = read_trees(scanners[0], names, alone)
     statements = [read_statement(scanner) for scanner in scanners[1:]]
     draft = Draft(leaf_order(statements, names))
     for statement in statements:
         draft.apply(statement)
     order = [draft.numbers[name] for name in names.numbers]
-    derived, base = renumbered(derived, order), renumbered(base, order)
-    return Sheet(draft.leaves, draft.first, draft.second, derived, base)
+    base = base._replace(levels=[renumbered(tree, order) for tree in base.levels])
+    return Paper(list(draft.numbers), draft.leaves, draft.first, draft.second,
+                 renumbered(derived, order), base)
 
 
-def read_trees(scanner, names):
-    derived = TreeReader(scanner, names).tree()
-    scanner.expect("|")
-    base = TreeReader(scanner, names).tree()
+def read_trees(scanner, names, alone):
+    """The derived tree, None where it is left out, and the chain in the base
+    place."""
+    derived = None
+    if not alone or scanner.has("|"):
+        derived = TreeReader(scanner, names).tree()
+        scanner.expect("|")
+    base = chain.read_chain(scanner, names)
     scanner.expect_end()
+    if derived and base.is_empty:
+        raise PaperError(base.first, "a base tree", "no content: every level is absent")
     return derived, base
 
 
 def renumbered(tree, order):
-    """The tree with the leaf k as ``order`` has it at place k."""
+    """The tree, if there is one, with the leaf k as ``order`` has it at place k."""
+    if tree is None:
+        return None
     leaf = order[tree.leaf] if tree.kind.is_leaf else 0
     return tree._replace(leaf=leaf, items=[renumbered(item, order) for item in tree.items])
 

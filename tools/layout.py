@@ -1,5 +1,6 @@
-"""The bytes of an exam sheet (document 01, 'The exam sheet'). The layout of
-sheet, leaf and record stands here only. Numbers are little-endian."""
+"""The bytes of an exam sheet (document 01, 'The exam sheet') and of a chain
+(document 02 §1). The layout of sheet, leaf, record and chain stands here only.
+Numbers are little-endian."""
 
 import struct
 from typing import NamedTuple
@@ -9,6 +10,9 @@ from sheet import Leaf
 CONTENTS = struct.Struct("<BBBBI")
 LEAF = struct.Struct("<BBH")
 RECORD = struct.Struct("<BBBBII")
+# A chain's number of levels, and the record count of a level.
+CHAIN = struct.Struct("<B")
+LEVEL = struct.Struct("<H")
 
 
 class Contents(NamedTuple):
@@ -87,3 +91,10 @@ def encode_tree(tree):
     maximum = 0 if unbounded else tree.maximum
     record = Record(tree.kind, tree.leaf, len(tree.items), unbounded, tree.minimum, maximum)
     return RECORD.pack(*record) + b"".join(encode_tree(item) for item in tree.items)
+
+
+def encode_chain(levels):
+    """The bytes of a chain: an absent level, None, has the count 0 and no record."""
+    trees = [b"" if tree is None else encode_tree(tree) for tree in levels]
+    counts = b"".join(LEVEL.pack(len(tree) // RECORD.size) for tree in trees)
+    return CHAIN.pack(len(levels)) + counts + b"".join(trees)

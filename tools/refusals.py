@@ -42,6 +42,13 @@ def read(data):
     return Sheet(leaves, first, second, derived, base)
 
 
+def read_tree(data, leaves):
+    """The tree of bytes that are accepted alone, over these leaves."""
+    if len(data) % layout.RECORD.size:
+        raise Refused(DERIVED + COUNTS, f"{len(data)} bytes, and the last record is broken")
+    return TreeCheck(data, 0, len(data), leaves, DERIVED).whole()
+
+
 def checked_contents(data):
     def check(good, place):
         if not good:

@@ -31,8 +31,17 @@ class Scanner:
         return self.tokens[self.at]
 
     @property
+    def before(self):
+        """The token before the present one."""
+        return self.tokens[self.at - 1]
+
+    @property
     def is_blank(self):
         return len(self.tokens) == 1
+
+    def has(self, text):
+        """Whether this token stands anywhere in the line."""
+        return any(token.text == text for token in self.tokens)
 
     def take(self):
         """The present token; the next one becomes the present one."""

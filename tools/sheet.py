@@ -8,6 +8,7 @@ from typing import List, NamedTuple, Optional
 MOST_LEAVES = 64
 MOST_RECORDS = 255
 MOST_DEPTH = 12
+MOST_LEVELS = 17
 MOST_OCCURS = 4294967295
 MOST_NAME = 65535
 
@@ -53,6 +54,15 @@ class Tree(NamedTuple):
     # None is unbounded.
     maximum: Optional[int]
     items: List["Tree"]
+
+    @property
+    def records(self):
+        """How many groups and leaves it has."""
+        return 1 + sum(item.records for item in self.items)
+
+    @property
+    def depth(self):
+        return 1 + max((item.depth for item in self.items), default=0)
 
 
 class Sheet(NamedTuple):

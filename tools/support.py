@@ -1,11 +1,18 @@
 """What the tests share: random sheets, papers written in many ways, and the
-marking program where it is there."""
+proved programs where they are there."""
 
+import os
 import random
+import stat
+import subprocess
 import sys
+import tempfile
 import unittest
+from pathlib import Path
 
-import marker
+import proved
+from draft import parse
+from faults import PaperError
 from notation import LETTERS, numbered, tree_text
 from printed import leaves_in_order, verdict_word
 from scanner import TOKEN
@@ -14,12 +21,23 @@ from sheet import (
     SET_REASONS, UNDECIDED, Kind, Leaf, Sheet, Tree, usual_table,
 )
 
-HAS_MARKER = marker.program().is_file()
-needs_marker = unittest.skipUnless(HAS_MARKER, "the marking program is missing")
-if not HAS_MARKER:
-    print(f"{marker.program()} is missing: the tests that need the marking program are skipped "
-          "(rt check marker builds it, MARKER names another)", file=sys.stderr)
 
+
+def needs(program):
+    """Skips a test where the program is missing, and says so."""
+    if not program.path().is_file():
+        print(f"{program.path()} is missing: the tests that need {program.called} are skipped "
+              f"(rt check {program.name} builds it, {program.variable} names another)",
+              file=sys.stderr)
+    return unittest.skipUnless(program.path().is_file(), f"{program.called} is missing")
+
+
+needs_marker = needs(proved.MARKER)
+needs_joiner = needs(proved.JOIN)
+
+ROOT = proved.ROOT
+SAMPLES = ROOT / "samples"
+PAPER = ROOT / "tools" / "paper"
 NUMBERS = (0, 1, 1, 1, 2, 3, 10, 65535, 65536, 65537, MOST_OCCURS - 1, MOST_OCCURS)
 
 
@@ -144,3 +162,47 @@ def spaced(rng, line):
         apart = text[-1:].isalnum() and token[0].isalnum()
         text += rng.choice([" ", "  ", "\t"] if apart else ["", "", " "]) + token
     return text + rng.choice(["", "", " ", " # S[a | : é"])
+
+
+def run(*words, data=b"", program=None, joiner=None, stdout=subprocess.PIPE):
+    environment = dict(os.environ)
+    for variable, path in (("MARKER", program), ("JOIN", joiner)):
+        if path:
+            environment[variable] = str(path)
+    return subprocess.run([str(PAPER), *map(str, words)], input=data, stdout=stdout,
+                          stderr=subprocess.PIPE, env=environment, check=False)
+
+
+class Command(unittest.TestCase):
+    def setUp(self):
+        folder = tempfile.TemporaryDirectory()
+        self.addCleanup(folder.cleanup)
+        self.folder = Path(folder.name)
+
+    def check(self, done, status, output, message):
+        self.assertEqual((done.returncode, done.stdout), (status, output), done.stderr)
+        if message:
+            self.assertIn(message, done.stderr.decode())
+        else:
+            self.assertEqual(done.stderr, b"")
+
+    def program(self, answer, status=0, message=""):
+        """A program in a proved one's place that gives this answer."""
+        path = self.folder / "program"
+        path.write_text(f"#!/bin/sh\ncat >/dev/null\nprintf '{answer}'\n"
+                        f"printf '{message}' >&2\nexit {status}\n")
+        path.chmod(stat.S_IRWXU)
+        return path
+
+
+class FaultsCase(unittest.TestCase):
+    def read(self, text):
+        return parse(text)
+
+    def check(self, text, line, column, expected, found):
+        with self.subTest(text=text[:60]):
+            with self.assertRaises(PaperError) as raised:
+                self.read(text)
+            error = raised.exception
+            self.assertEqual(str(error), f"expected {expected}, found {found}")
+            self.assertEqual((error.line, error.column), (line, column))

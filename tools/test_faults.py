@@ -8,7 +8,7 @@ import refusals
 from draft import parse
 from faults import PaperError
 from sheet import MOST_DEPTH, MOST_LEAVES, MOST_RECORDS
-from support import random_paper, random_sheet
+from support import FaultsCase, random_paper, random_sheet
 
 LEAF = "a leaf (a letter such as a, w or a1)"
 TREE = f"{LEAF}, S, C or A"
@@ -27,10 +27,10 @@ IN_TREES = [
     ("a0 | a", 1, 1, TREE, "'a0'"),
     ("S2[a] | a", 1, 1, TREE, "'S2'"),
     ("a", 1, 2, "'(' or '|'", END),
-    ("a | # b", 1, 4, TREE, END),
-    ("\na | b c", 2, 7, f"'(' or {END}", "'c'"),
-    ("a | b | c", 1, 7, f"'(' or {END}", "'|'"),
-    ("a | b(0,1) c", 1, 12, END, "'c'"),
+    ("a | # b", 1, 4, f"'-', {TREE}", END),
+    ("\na | b c", 2, 7, f"'(', '+' or {END}", "'c'"),
+    ("a | b | c", 1, 7, f"'(', '+' or {END}", "'|'"),
+    ("a | b(0,1) c", 1, 12, f"'+' or {END}", "'c'"),
     ("S[a,b | a", 1, 7, "'(', ']' or ','", "'|'"),
     ("S[a b] | a", 1, 5, "'(', ']' or ','", "'b'"),
     ("S a | a", 1, 3, "'(' or '['", "'a'"),
@@ -96,15 +96,7 @@ def elements(count):
     return [f"a{number}" for number in range(1, count + 1)]
 
 
-class Faults(unittest.TestCase):
-    def check(self, text, line, column, expected, found):
-        with self.subTest(text=text[:60]):
-            with self.assertRaises(PaperError) as raised:
-                parse(text)
-            error = raised.exception
-            self.assertEqual(str(error), f"expected {expected}, found {found}")
-            self.assertEqual((error.line, error.column), (line, column))
-
+class Faults(FaultsCase):
     def test_trees(self):
         for fault in IN_TREES:
             self.check(*fault)
@@ -170,7 +162,7 @@ class Scribbles(unittest.TestCase):
     """A paper with some characters changed is read, or has a place of fault."""
 
     COUNT = 3000
-    SIGNS = "aAbBsScCw019()[]{},|:*# \t\n-é\x00²"
+    SIGNS = "aAbBsScCw019()[]{},|:*# \t\n+-é\x00²"
 
     def test_nothing_else_happens(self):
         read = 0

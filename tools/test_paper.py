@@ -3,25 +3,21 @@
 import os
 import pty
 import re
-import stat
 import subprocess
-import tempfile
 import unittest
-from pathlib import Path
 
 import layout
 import marker
 from draft import parse
 from printed import paper_text
-from support import needs_marker, random_paper, random_sheet
+from support import (
+    ROOT, SAMPLES, Command, needs_joiner, needs_marker, random_paper, random_sheet, run,
+)
 from usage import GRAMMAR
 from words import REASONS, REFUSALS, in_words
 
-ROOT = Path(__file__).resolve().parent.parent
-PAPER = ROOT / "tools" / "paper"
 README = ROOT / "tools" / "README.md"
 KEY = ROOT / "docs" / "KEY.md"
-SAMPLES = ROOT / "samples"
 SMALLEST = SAMPLES / "smallest.sheet"
 
 # Document 01, 'Examples': derived and base tree, a statement, the mark.
@@ -63,35 +59,8 @@ BY_REASON = {
 }
 
 SAMPLE_MARKS = {"entry": "passes", "results": "undecided", "rounds": "fails 105"}
-
-
-def run(*words, data=b"", program=None, stdout=subprocess.PIPE):
-    environment = dict(os.environ)
-    if program:
-        environment["MARKER"] = str(program)
-    return subprocess.run([str(PAPER), *map(str, words)], input=data, stdout=stdout,
-                          stderr=subprocess.PIPE, env=environment, check=False)
-
-
-class Command(unittest.TestCase):
-    def setUp(self):
-        folder = tempfile.TemporaryDirectory()
-        self.addCleanup(folder.cleanup)
-        self.folder = Path(folder.name)
-
-    def check(self, done, status, output, message):
-        self.assertEqual((done.returncode, done.stdout), (status, output), done.stderr)
-        if message:
-            self.assertIn(message, done.stderr.decode())
-        else:
-            self.assertEqual(done.stderr, b"")
-
-    def program(self, answer, status=0):
-        """A program in the marking program's place that gives this answer."""
-        path = self.folder / "marker"
-        path.write_text(f"#!/bin/sh\nprintf '{answer}'\nexit {status}\n")
-        path.chmod(stat.S_IRWXU)
-        return path
+# Of papers whose base is a chain.
+CHAIN_MARKS = {"report": "passes"}
 
 
 class Writing(Command):
@@ -180,7 +149,7 @@ class Reading(Command):
 class Words(unittest.TestCase):
     def test_every_number_has_words(self):
         self.assertEqual(list(REASONS), list(range(101, 125)))
-        self.assertEqual(sorted(REFUSALS), list(range(1, 15)))
+        self.assertEqual(sorted(REFUSALS), list(range(1, 17)))
         for number in range(140, 153):
             self.assertEqual(in_words("fails", number), "a reason that the paper sets")
 
@@ -213,11 +182,18 @@ class Marks(Command):
             given = marker.mark(layout.encode(parse(text)))
             self.assertEqual(given, marker.Mark("fails", reason), text)
 
-    def test_samples(self):
-        for name, mark in SAMPLE_MARKS.items():
+    def check_samples(self, marks):
+        for name, mark in marks.items():
             with self.subTest(name=name):
                 done = run("mark", SAMPLES / f"{name}.paper")
                 self.assertEqual(done.stdout.decode().split(":")[0], mark, done.stderr)
+
+    def test_samples(self):
+        self.check_samples(SAMPLE_MARKS)
+
+    @needs_joiner
+    def test_samples_with_chains(self):
+        self.check_samples(CHAIN_MARKS)
 
     def test_reading_ends_in_the_mark(self):
         words = b"# passes: the derived tree restricts the base tree\n"
@@ -239,6 +215,7 @@ class Documents(unittest.TestCase):
             self.assertIn(f"    {line}\n" if line else "\n", readme)
 
     @needs_marker
+    @needs_joiner
     def test_the_readme_says_what_happens(self):
         """Each command after a $, and the output below it."""
         readme = README.read_text(encoding="utf-8")

@@ -33,7 +33,7 @@ class RoundTrip(unittest.TestCase):
                 self.assertEqual(refusals.read(data), sheet)
                 self.assertEqual(written(read_back(data)), data)
             contents = layout.contents_of(data)
-            reached.append((contents.leaves, contents.base, depth(sheet.base)))
+            reached.append((contents.leaves, contents.base, sheet.base.depth))
         # Random sheets that never came to the limits would show little.
         most = tuple(max(column) for column in zip(*reached))
         self.assertEqual(most, (MOST_LEAVES, MOST_RECORDS, MOST_DEPTH))
@@ -48,10 +48,6 @@ class RoundTrip(unittest.TestCase):
         data = (SAMPLES / "smallest.sheet").read_bytes()
         self.assertEqual(written("a | a(0,1)"), data)
         self.assertEqual(read_back(data), "a | a(0,1)\n")
-
-
-def depth(tree):
-    return 1 + max((depth(item) for item in tree.items), default=0)
 
 
 class Printed(unittest.TestCase):

@@ -1,6 +1,9 @@
 """What `tools/paper --help` says of papers."""
 
-DESCRIPTION = "Turns a paper in document 01's notation into an exam sheet and back."
+DESCRIPTION = (
+    "Turns a paper in document 01's notation into an exam sheet and back, and joins trees that "
+    "extend one another."
+)
 
 # tools/README.md has these lines too; a test compares them.
 GRAMMAR = """\
@@ -12,6 +15,8 @@ LEAVES | LEAVES : VERDICTS   each of these as derived, each of those as base
 
 DERIVED, BASE   trees: a leaf; or S, C or A with its items, as S[a,C[b,w]] or
                 S[]; after a letter a pair may stand, as a(0,1) or S(2,*)[a]
+BASE            may be a chain: up to 17 levels that extend one another, root
+                type first, each a tree or - for none, as S[a,b] + - + c
 a pair          minimum and maximum, up to 4294967295 or * for unbounded;
                 no pair means (1,1)
 a leaf          a letter, or a letter and a number from 1: w, w1, w2 ... are
@@ -32,8 +37,10 @@ an element's name number is its place among the leaves (from 0), process
 contents are skip, and the leaves are those of the trees as they turn up.
 
 The mark is that of the marking program, target/bin/marker, which
-`rt check marker` builds; MARKER names another.
+`rt check marker` builds; MARKER names another. A chain is joined by the program
+target/bin/join, which `rt check join` builds; JOIN names another. `join` takes
+a paper without DERIVED | too, and puts the joined tree in the chain's place.
 
 Exit status: 0 fine; 1 wrong notation or a refused sheet; 2 bad usage, a file
-that can't be read or written, or no mark since the marking program is missing.
+that can't be read or written, or no answer since a program is missing.
 """

@@ -56,9 +56,12 @@ TREE_FAULTS = (
 REFUSALS = {
     1: (CALLER + "sheet under 8 bytes, a contents field out of its range, "
         "or total field or actual length unlike the formula", "S2"),
-    2: (CALLER + "buffer shorter than the tree handed in, which no sheet shows", "Tidying"),
+    2: (CALLER + "buffer shorter than the tree handed in, "
+        "or than the joined tree, which no sheet shows", "Tidying, L6"),
     3: (EXAMINER + "the fields of a leaf are out of order", "S3"),
     4: (EXAMINER + "a verdict that is not 0, 1 or 140 to 152", "S3"),
+    15: (CALLER + "chain of 0 or over 17 levels, or of a length unlike its counts", "L2"),
+    16: (EXAMINER + "joined tree over 255 records or depth 12", "L5"),
 }
 for place, (fault, rule) in enumerate(TREE_FAULTS):
     REFUSALS[5 + place] = (f"{EXAMINER}base tree, {fault}", f"S4, {rule}")
@@ -76,6 +79,6 @@ def in_words(word, number):
         return "a reason that the paper sets"
     known = REFUSALS if word == "refused" else REASONS
     if number not in known:
-        return "a number that document 01 doesn't have"
+        return "a number that docs/KEY.md doesn't have"
     text, rule = known[number]
     return f"{text} ({KEY}, {rule})"

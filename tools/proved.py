@@ -1,0 +1,51 @@
+"""Runs the proved programs on bytes."""
+
+import os
+import subprocess
+from pathlib import Path
+from typing import NamedTuple
+
+ROOT = Path(__file__).resolve().parent.parent
+
+
+class NoAnswer(Exception):
+    """The program is missing or does not answer."""
+
+
+class Program(NamedTuple):
+    # Its crate.
+    name: str
+    # The variable of the environment that names another program in its place.
+    variable: str
+    # What messages call it, and its answer.
+    called: str
+    answer: str
+
+    def path(self):
+        """Where the variable says, or where `rt check` puts it."""
+        return Path(os.environ.get(self.variable) or ROOT / "target" / "bin" / self.name)
+
+    def run(self, data):
+        """What it does with the data; raises NoAnswer where it can't be run."""
+        path = self.path()
+        if not path.is_file():
+            raise NoAnswer(
+                f"{self.called} {path} is missing: run `rt check {self.name}` in the repository's "
+                f"root, or set {self.variable} to the program's path"
+            )
+        try:
+            return subprocess.run([str(path.resolve())], input=data, stdout=subprocess.PIPE,
+                                  stderr=subprocess.PIPE, check=False)
+        except OSError as error:
+            raise NoAnswer(f"{self.called} {path} does not run: {error.strerror}") from error
+
+    def no_answer(self, run):
+        """The fault of a run that answers in no known form."""
+        return NoAnswer(
+            f"{self.called} {self.path()} gives no {self.answer}: exit status {run.returncode}, "
+            f"output {run.stdout[:40]!r}, messages {run.stderr[:40]!r}"
+        )
+
+
+MARKER = Program("marker", "MARKER", "the marking program", "mark")
+JOIN = Program("join", "JOIN", "the joining program", "tree")
