@@ -9,6 +9,7 @@ import joiner
 import layout
 from draft import parse, read
 from notation import tree_text
+from proved import JOIN
 from refusals import Refused
 from sheet import MOST_DEPTH, MOST_LEVELS, MOST_RECORDS, Kind, Leaf, Tree
 from support import (
@@ -184,6 +185,13 @@ class SameAsTheProgram(unittest.TestCase):
             ([wide(MOST_RECORDS)] * MOST_LEVELS, "refused"),
         ):
             self.assertEqual(self.check(trees, [ELEMENT]), expected)
+
+    def test_input_past_what_the_program_reads(self):
+        # One tree of as many records as its count can tell; with all of it, 14.
+        most = (1 << 16) - 1
+        done = JOIN.run(layout.CHAIN.pack(1) + layout.LEVEL.pack(most)
+                        + bytes(layout.RECORD.size * most))
+        self.assertEqual((done.stdout, done.stderr), (b"", b"refused 15\n"))
 
     def test_printed_chains_come_back(self):
         for text, tree in JOINED:

@@ -32,7 +32,16 @@ pub data Reached (c out : List ℕ) : Answer (Option ℕ) → Type 0 where
   tooShort : {x : Particle} → Sound c → joinedTree c ≡ some x → overLimits x ≡ false → Reached c out (refused (refusalNumber Buffer))
   joins : {x : Particle} → Sound c → joinedTree c ≡ some x → overLimits x ≡ false → recordSize * sizeI (single x) ≤ length out → Reached c out (gives (some (sizeI (single x))))
 
+-- the answer by what the checks find; all others speak of it by these
 module _ (c out : List ℕ) where
+  pub not-chain : chainOk c ≡ false → chainAnswer c out ≡ refused (refusalNumber Chain)
+  unfolding chainAnswer
+  not-chain k = rw k
+
+  pub of-levels : chainOk c ≡ true → {f : Checked} → levelsRefusal (levels c) ≡ f → chainAnswer c out ≡ afterLevels f (contentAnswer (joinedTree c) (length out))
+  unfolding chainAnswer
+  of-levels k a = rw (k, a)
+
   sized : {x : Particle} → Sound c → joinedTree c ≡ some x → overLimits x ≡ false → (short : Bool) → ltb (length out) (recordSize * sizeI (single x)) ≡ short → Reached c out (cond short (refused (refusalNumber Buffer)) (gives (some (sizeI (single x)))))
   sized s i l true e = tooShort s i l
   sized {x} s i l false e = joins s i l (ltb-false (length out) (recordSize * sizeI (single x)) e)
@@ -49,10 +58,9 @@ module _ (c out : List ℕ) where
   checked k Accepted a = joined (record { ok = k; accepted = a }) (joinedTree c) refl
   checked k (Refused f) a = badTree k a
 
-  laid : (ok : Bool) → chainOk c ≡ ok → Reached c out (cond ok (afterLevels (levelsRefusal (levels c)) (contentAnswer (joinedTree c) (length out))) (refused (refusalNumber Chain)))
-  laid true k = checked k (levelsRefusal (levels c)) refl
-  laid false k = noChain k
-
   pub reached : Reached c out (chainAnswer c out)
-  unfolding chainAnswer
   reached = laid (chainOk c) refl
+    where
+      laid : (ok : Bool) → chainOk c ≡ ok → Reached c out (chainAnswer c out)
+      laid true k = rw (of-levels k refl) (checked k (levelsRefusal (levels c)) refl)
+      laid false k = rw (not-chain k) (noChain k)

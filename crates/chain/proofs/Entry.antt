@@ -29,13 +29,13 @@ use Rattle.entries.specs.Answer.{gives, refused, refusalAlone}
 use Rattle.intake.proofs.Steps as steps
 use Rattle.chain.specs.declared.JoinedAnswer.{JoinedAnswer}
 use Rattle.chain.specs.declared.JoinedAnswer.the-variants as j
-use Rattle.chain.specs.Layout.{levelCount, countAt, counts, sum, treesPart, levels}
+use Rattle.chain.specs.Layout.{counts, sum, treesPart, levels}
 use Rattle.chain.specs.Answer.{chainOk, levelsRefusal, joinedTree, overLimits, contentAnswer, afterLevels, chainAnswer, chainBuffer, joinedMeaning}
 use Rattle.chain.specs.Nested.{presentIn, nested, Nests, Joins, Joining}
 use Rattle.chain.proofs.Levels.{trees-length}
-use Rattle.chain.proofs.Lengths.{counts-within}
 use Rattle.chain.proofs.NestStep.{length-nested}
-use Rattle.chain.proofs.Joined.{joined-none, joined-some, joins-size, joins-within, joins-accepted}
+use Rattle.chain.proofs.Joined.{joined-none, joined-some, joins-size, joins-within, joins-refused}
+use Rattle.chain.proofs.Answered.{not-chain, of-levels}
 
 -- The answer by the joined tree x -----------------------------------------------------------
 
@@ -48,10 +48,6 @@ module _ (x : Particle) (room : ℕ) where
 
   given : overLimits x ≡ false → recordSize * sizeI (single x) ≤ room → {n : ℕ} → n ≡ sizeI (single x) → gives (some n) ≡ contentAnswer (some x) room
   given e l c = rw (e, le-ltb _ _ l, c)
-
-by-test : (b : Bool) → (b ≡ false → ⊥) → b ≡ true
-by-test true h = refl
-by-test false h = absurd (h refl)
 
 -- `join`: k records are in t, and n sequences are nested about it -----------------------------
 
@@ -86,7 +82,7 @@ module _ (t : List ℕ) {k : ℕ} (e : k ≡ length (records t)) (n : ℕ) where
 
       pub too-deep : {g : Fault} → r ≡ checked.Refused g → (out : List ℕ) → Joining n t out out (j.Refused Limit)
       too-deep q out = record {
-        answer = λ x a. over x (length out) (by-test (overLimits x) (λ z. steps.refused (sym q ∙ (found ∙ joins-accepted a z))));
+        answer = λ x a. over x (length out) (joins-refused a (λ z. steps.refused (sym q ∙ (found ∙ z))));
         buffer = λ x a. refl;
       }
 
@@ -114,8 +110,7 @@ module _ (c out : List ℕ) {ok : Bool} (e : ok ≡ chainOk c) where
     failed = sym e ∙ not-true ok t
 
     pub no-chain : refused (refusalNumber Chain) ≡ chainAnswer c out
-    unfolding chainAnswer
-    no-chain = rw failed
+    no-chain = sym (not-chain c out failed)
 
     pub no-chain-kept : out ≡ chainBuffer c out
     unfolding chainBuffer
@@ -124,9 +119,6 @@ module _ (c out : List ℕ) {ok : Bool} (e : ok ≡ chainOk c) where
   module _ (t : not ok ≡ false) where
     pub is-chain : chainOk c ≡ true
     is-chain = sym e ∙ not-false ok t
-
-    pub counts-there : countAt (levelCount c) ≤ length c
-    counts-there = counts-within c is-chain
 
     -- the trees are s, and have so many records
     module _ {s : List ℕ} (u : s ≡ treesPart c) where
@@ -139,8 +131,7 @@ module _ (c out : List ℕ) {ok : Bool} (e : ok ≡ chainOk c) where
     -- the check of the levels found r
     module _ {r : Checked} (f : r ≡ levelsRefusal (levels c)) where
       after-levels : chainAnswer c out ≡ afterLevels r (contentAnswer (joinedTree c) (length out))
-      unfolding chainAnswer
-      after-levels = rw (is-chain, f)
+      after-levels = of-levels c out is-chain (sym f)
 
       module _ {g : Fault} (q : r ≡ checked.Refused g) where
         pub level-refused : refused (refusalNumber (Derived g)) ≡ chainAnswer c out

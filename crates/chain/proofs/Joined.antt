@@ -47,6 +47,14 @@ within x e =
 pub not-over : (x : Particle) → sizeI (single x) ≤ maxRecords → depthOf (single x) ≤ maxDepth → overLimits x ≡ false
 not-over x s d = rw (le-ltb maxRecords (sizeI (single x)) s, le-ltb maxDepth (depthOf (single x)) d)
 
+-- where it cannot be that no limit is broken, one is
+pub one-broken : (x : Particle) → (overLimits x ≡ false → ⊥) → overLimits x ≡ true
+one-broken x h = go (overLimits x) h
+  where
+    go : (b : Bool) → (b ≡ false → ⊥) → b ≡ true
+    go true h = refl
+    go false h = absurd (h refl)
+
 -- what is accepted breaks no limit
 pub accepted-within : (known : Known) (x : Particle) → AcceptedIn known (encode (single x)) → overLimits x ≡ false
 accepted-within known x e = not-over x (omega (arith, length-encode (single x), sized known (encode (single x)) e .few)) (accepted-shallow known x e)
@@ -129,3 +137,6 @@ module _ {n : ℕ} {t : List ℕ} {x : Particle} (j : Joins n t x) where
 
   pub joins-accepted : overLimits x ≡ false → refusalAlone (nested n t) ≡ Accepted
   joins-accepted l = ap refusalAlone (sym (j .bytes)) ∙ fits-accepted alone x (j .fits l)
+
+  pub joins-refused : (refusalAlone (nested n t) ≡ Accepted → ⊥) → overLimits x ≡ true
+  joins-refused h = one-broken x (λ l. h (joins-accepted l))

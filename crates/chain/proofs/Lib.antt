@@ -5,8 +5,8 @@ pub mod Loops
 pub mod NestStep
 pub mod Shallow
 pub mod Joined
-pub mod Entry
 pub mod Answered
+pub mod Entry
 pub mod Written
 pub mod BaseOfSheet
 pub mod Allowed

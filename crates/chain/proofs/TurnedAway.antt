@@ -1,5 +1,5 @@
 -- What is turned away, and when nothing is written. Assumes nothing.
-use mathlib.Core.Bool.{Bool, true, false, false≢true}
+use mathlib.Core.Bool.{true, false, false≢true}
 use mathlib.Core.List.{List, [], _∷_}
 use mathlib.Core.Logic.{inl, inr, ⊎-elim, _↔_}
 use mathlib.Core.Option.{Option, none, some}
@@ -10,7 +10,6 @@ use lib.Dec.{ltb}
 use borrow.Author.Tests.{ltb-true, lt-ltb}
 use Rattle.particle.specs.Record.{maxRecords}
 use Rattle.particle.specs.Tree.{Particle, single, sizeI}
-use Rattle.particle.specs.Encode.{encode}
 use Rattle.particle.proofs.Tests.{or-true, left-true, right-true}
 use Rattle.tidying.specs.Depth.{depthOf}
 use Rattle.intake.specs.declared.Refusal.{Refusal}
@@ -21,15 +20,15 @@ use Rattle.intake.specs.Number.{refusalNumber}
 use Rattle.intake.specs.Scan.{alone}
 use Rattle.intake.proofs.OneRefusal.{one-refusal}
 use Rattle.intake.proofs.FitsAccepted.{fits-accepted}
-use Rattle.entries.specs.Answer.{Answer, gives, refused, refusalAlone}
+use Rattle.entries.specs.Answer.{Answer, gives, refused}
 use Rattle.chain.specs.Layout.{levels}
 use Rattle.chain.specs.Effective.{present}
 use Rattle.chain.specs.Answer.{chainOk, levelsRefusal, joinedTree, overLimits, chainAnswer, chainBuffer}
 use Rattle.chain.specs.Facts.{OverALimit, LimitExactly, OverExactly, NoContentExactly, NothingWritten}
 use Rattle.chain.proofs.Levels.{absent-accepted, accepted-levels}
-use Rattle.chain.proofs.Joined.{accepted-within, joined-is, joined-absent, tree-fits}
+use Rattle.chain.proofs.Joined.{one-broken, accepted-within, joined-is, joined-absent, tree-fits}
 use Rattle.chain.proofs.Written.{not-given}
-use Rattle.chain.proofs.Answered.{Reached, noChain, badTree, noContent, tooLarge, tooShort, joins, reached}
+use Rattle.chain.proofs.Answered.{Reached, noChain, badTree, noContent, tooLarge, tooShort, joins, not-chain, of-levels, reached}
 
 -- 16 -----------------------------------------------------------------------------------------
 
@@ -42,16 +41,10 @@ over-iff x =
     )
 
 chain-over : (c out : List ℕ) → chainOk c ≡ true → levelsRefusal (levels c) ≡ Accepted → {x : Particle} → joinedTree c ≡ some x → overLimits x ≡ true → chainAnswer c out ≡ refused (refusalNumber Limit)
-unfolding chainAnswer
-chain-over c out k a i l = rw (k, a, i, l)
-
-no-chain : (c out : List ℕ) → chainOk c ≡ false → chainAnswer c out ≡ refused (refusalNumber Chain)
-unfolding chainAnswer
-no-chain c out k = rw k
+chain-over c out k a i l = of-levels c out k a ∙ rw (i, l)
 
 all-absent : (c out : List ℕ) → chainOk c ≡ true → present (levels c) ≡ [] → chainAnswer c out ≡ gives none
-unfolding chainAnswer
-all-absent c out k p = rw (k, absent-accepted (levels c) p, joined-absent c p)
+all-absent c out k p = of-levels c out k (absent-accepted (levels c) p) ∙ rw (joined-absent c p)
 
 -- two refusals are told apart by their numbers
 apart : (r q : Refusal) → (r ≡ q → _≡_ {A = ℕ} 0 1) → _≡_ {A = Answer (Option ℕ)} (refused (refusalNumber r)) (refused (refusalNumber q)) → ⊥
@@ -77,17 +70,13 @@ limit-exactly c out = (go (reached c out), back)
 pub over-exactly : OverExactly
 over-exactly c b a x i = (
   λ o e. false≢true (sym (accepted-within alone x e) ∙ over-iff x .1 o),
-  λ n. over-iff x .0 (go (overLimits x) refl n),
+  λ n. over-iff x .0 (one-broken x (λ l. n (fits-accepted alone x (tree-fits c b alone (accepted-levels (levels c) a) i l)))),
 )
-  where
-    go : (o : Bool) → overLimits x ≡ o → ¬ (refusalAlone (encode (single x)) ≡ Accepted) → overLimits x ≡ true
-    go true l n = l
-    go false l n = absurd (n (fits-accepted alone x (tree-fits c b alone (accepted-levels (levels c) a) i l)))
 
 -- 15 -----------------------------------------------------------------------------------------
 
 pub chain-refused : (c out : List ℕ) → (chainAnswer c out ≡ refused (refusalNumber Chain)) ↔ (chainOk c ≡ false)
-chain-refused c out = (go (reached c out), no-chain c out)
+chain-refused c out = (go (reached c out), not-chain c out)
   where
     go : {a : Answer (Option ℕ)} → Reached c out a → a ≡ refused (refusalNumber Chain) → chainOk c ≡ false
     go (noChain k) e = k

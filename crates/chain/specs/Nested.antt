@@ -36,7 +36,7 @@ pub record Nests (n : ℕ) (t out : List ℕ) (end : ℕ) : Type 0 where
   pub within : end ≤ length out
   pub holds : take end out ≡ nested n t
 
--- the tree x is t with n sequences nested about it, and the check of a tree alone refuses it just where it breaks a limit
+-- the tree x is t with n sequences nested about it, and it fits as a tree alone unless it breaks a limit
 pub record Joins (n : ℕ) (t : List ℕ) (x : Particle) : Type 0 where
   pub bytes : encode (single x) ≡ nested n t
   pub fits : overLimits x ≡ false → TreeFits alone x

@@ -1,7 +1,8 @@
 -- `chain::effective_particle` meets its contract. Assumes nothing.
 use native.Mathlib.Omega.{arith}
 use borrow.Author.Needs.{needs}
-use Rattle.chain.proofs.Entry.{no-chain, no-chain-kept, is-chain, level-refused, level-refused-kept, counts-there, no-content, no-content-kept, trees-even, trees-small, joined-answer, joined-buffer}
+use Rattle.chain.proofs.Lengths.{counts-within}
+use Rattle.chain.proofs.Entry.{no-chain, no-chain-kept, is-chain, level-refused, level-refused-kept, no-content, no-content-kept, trees-even, trees-small, joined-answer, joined-buffer}
 use Rattle.chain.proofs.effective_particle.Statement.{statement}
 use Rattle.chain.proofs.effective_particle.Tie as tie
 
@@ -15,7 +16,7 @@ effective-particle-spec =
     (λ c. search needs)
     (λ c. (search level-refused, search level-refused-kept))
     (λ c. search needs)
-    (λ c κs. search counts-there)
+    (λ c κs. search (counts-within, is-chain))
     (λ c. (search no-content, search no-content-kept))
     (λ c κs. search is-chain)
     (λ c. search needs)
