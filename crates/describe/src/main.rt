@@ -1,32 +1,52 @@
-// Reads one tree from standard input and prints what the entries for one tree say of it: `total MIN MAX` and `emptiable yes` or
-// `emptiable no`, or `refused N`.
+// Reads one tree from standard input and prints what the entries for one tree say of it: `total MIN, MAX` and `emptiable yes` or
+// `emptiable no`, or `refused N`. MIN is a number or `too large`, MAX a number, `too large` or `unbounded`.
 use entries::EmptiableAnswer;
 use entries::TotalAnswer;
 use intake::Refusal;
 use libc::STDOUT_FILENO;
-use particle::MaxOccurs;
-use particle::Occurs;
-
-fn print_number(n: u32, end: &[u8]) {
-    io::print_decimal(STDOUT_FILENO, n as u64);
-    io::write_all(STDOUT_FILENO, end);
-}
+use totals::TotalMax;
+use totals::TotalMin;
+use totals::TotalRange;
 
 fn print_refused(r: Refusal) {
     io::write_all(STDOUT_FILENO, b"refused ");
-    print_number(intake::number(r), b"\n");
+    io::print_decimal(STDOUT_FILENO, intake::number(r) as u64);
+    io::write_all(STDOUT_FILENO, b"\n");
 }
 
-fn print_total(o: Occurs) {
-    io::write_all(STDOUT_FILENO, b"total ");
-    print_number(o.min, b" ");
-    let max = o.max;
-    match max {
-        MaxOccurs::Bounded(n) => print_number(n, b"\n"),
-        MaxOccurs::Unbounded => {
-            io::write_all(STDOUT_FILENO, b"unbounded\n");
+fn print_min(m: TotalMin) {
+    match m {
+        TotalMin::Exact(n) => {
+            io::print_decimal(STDOUT_FILENO, n as u64);
+        }
+        TotalMin::TooLarge => {
+            io::write_all(STDOUT_FILENO, b"too large");
         }
     }
+}
+
+fn print_max(m: TotalMax) {
+    match m {
+        TotalMax::Bounded(n) => {
+            io::print_decimal(STDOUT_FILENO, n as u64);
+        }
+        TotalMax::TooLarge => {
+            io::write_all(STDOUT_FILENO, b"too large");
+        }
+        TotalMax::Unbounded => {
+            io::write_all(STDOUT_FILENO, b"unbounded");
+        }
+    }
+}
+
+fn print_total(t: TotalRange) {
+    let min = t.min;
+    let max = t.max;
+    io::write_all(STDOUT_FILENO, b"total ");
+    print_min(min);
+    io::write_all(STDOUT_FILENO, b", ");
+    print_max(max);
+    io::write_all(STDOUT_FILENO, b"\n");
 }
 
 fn print_emptiable(t: &[u8]) {

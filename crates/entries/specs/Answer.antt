@@ -2,7 +2,7 @@
 use mathlib.Core.Bool.{Bool, true, false}
 use mathlib.Core.List.{List}
 use Prim.Native.Nat.{ℕ}
-use Rattle.particle.specs.declared.Occurs.{Occurs}
+use Rattle.totals.specs.declared.ranges.TotalRange.{TotalRange}
 use Rattle.intake.specs.declared.Checked.{Checked}
 use Rattle.intake.specs.declared.Checked.the-variants as checked
 use Rattle.intake.specs.declared.Refusal.the-variants.{Derived}
@@ -28,7 +28,7 @@ answer checked.Accepted a = gives a
 answer (checked.Refused f) a = refused (refusalNumber (Derived f))
 
 -- what each case of an answer's enum stands for
-abbrev pub totalMeaning : TotalAnswer → Answer Occurs
+abbrev pub totalMeaning : TotalAnswer → Answer TotalRange
 totalMeaning (t.Total o) = gives o
 totalMeaning (t.Refused r) = refused (refusalNumber r)
 

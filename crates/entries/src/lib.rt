@@ -10,11 +10,11 @@ ghost use Rattle.entries.specs.TidyAnswer.{tidyMeaning, tidyAnswer, tidy
 ghost use Rattle.entries.specs.ItemAnswer.{itemPlace, itemBytes};
 use intake::Checked;
 use intake::Refusal;
-use particle::Occurs;
+use totals::TotalRange;
 
 // What the total range of a tree alone is answered by.
 pub enum TotalAnswer {
-    Total(Occurs),
+    Total(TotalRange),
     Refused(Refusal),
 }
 

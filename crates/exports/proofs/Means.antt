@@ -7,10 +7,8 @@ use borrow.Author.Tests.{le-leb, lt-leb}
 use lib.ListN.{length, take, drop}
 use lib.Seq.{take-all}
 use native.Mathlib.Nat.{le-refl}
-use Rattle.particle.specs.declared.MaxOccurs.{MaxOccurs}
-use Rattle.particle.specs.declared.MaxOccurs.the-variants.{Bounded, Unbounded}
 use Rattle.entries.specs.Answer.{Answer}
-use Rattle.exports.specs.Numbers.{beyond, maxOccursNumber, written}
+use Rattle.exports.specs.Numbers.{written}
 
 -- the entry answered e, which means a, and n is e's number
 pub number-of : {A E : Type 0} (meaning : E → Answer A) (number : Answer A → ℕ) {r e : E} {a : Answer A} {n : ℕ} → meaning r ≡ a → r ≡ e → n ≡ number (meaning e) → n ≡ number a
@@ -18,12 +16,6 @@ number-of meaning number m g e = e ∙ ap number (ap meaning (sym g) ∙ m)
 
 pub sum-of : (b : ℕ) {n m : ℕ} → n ≡ m → b + n ≡ b + m
 sum-of b e = ap (λ (x : ℕ). b + x) e
-
-pub bounded-number : {m : MaxOccurs} {n : ℕ} → m ≡ Bounded n → n ≡ maxOccursNumber m
-bounded-number e = ap maxOccursNumber (sym e)
-
-pub unbounded-number : {m : MaxOccurs} → m ≡ Unbounded → beyond ≡ maxOccursNumber m
-unbounded-number e = ap maxOccursNumber (sym e)
 
 -- s is the item's bytes x, and was copied to the start of out, where it fits; one that does not fit was not
 module _ {s x : List ℕ} (e : s ≡ x) (out : List ℕ) where

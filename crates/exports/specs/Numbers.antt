@@ -5,9 +5,11 @@ use mathlib.Core.Option.{Option, none, some}
 use Prim.Native.Nat.{ℕ, _+_}
 use lib.Dec.{leb}
 use lib.ListN.{length}
-use Rattle.particle.specs.declared.MaxOccurs.{MaxOccurs}
-use Rattle.particle.specs.declared.MaxOccurs.the-variants.{Bounded, Unbounded}
-use Rattle.particle.specs.declared.Occurs.{Occurs}
+use Rattle.totals.specs.declared.ranges.TotalMin.{TotalMin}
+use Rattle.totals.specs.declared.ranges.TotalMin.the-variants as least
+use Rattle.totals.specs.declared.ranges.TotalMax.{TotalMax}
+use Rattle.totals.specs.declared.ranges.TotalMax.the-variants as most
+use Rattle.totals.specs.declared.ranges.TotalRange.{TotalRange}
 use Rattle.entries.specs.Answer.{Answer, gives, refused}
 use Rattle.entries.specs.TidyAnswer.{startingWith}
 use Rattle.rules.specs.Verdicts.{Mark, passes, undecided, fails}
@@ -16,16 +18,25 @@ use Rattle.rules.specs.Verdicts.{Mark, passes, undecided, fails}
 abbrev pub beyond : ℕ
 beyond = 4294967296
 
-abbrev pub minNumber : Answer Occurs → ℕ
-minNumber (gives o) = o .min
+-- 2 to the power 33: a minimum or a maximum that is too large
+abbrev pub tooLarge : ℕ
+tooLarge = 8589934592
+
+abbrev pub totalMinNumber : TotalMin → ℕ
+totalMinNumber (least.Exact n) = n
+totalMinNumber least.TooLarge = tooLarge
+
+abbrev pub totalMaxNumber : TotalMax → ℕ
+totalMaxNumber (most.Bounded n) = n
+totalMaxNumber most.TooLarge = tooLarge
+totalMaxNumber most.Unbounded = beyond
+
+abbrev pub minNumber : Answer TotalRange → ℕ
+minNumber (gives o) = totalMinNumber (o .min)
 minNumber (refused n) = beyond + n
 
-abbrev pub maxOccursNumber : MaxOccurs → ℕ
-maxOccursNumber (Bounded n) = n
-maxOccursNumber Unbounded = beyond
-
-abbrev pub maxNumber : Answer Occurs → ℕ
-maxNumber (gives o) = maxOccursNumber (o .max)
+abbrev pub maxNumber : Answer TotalRange → ℕ
+maxNumber (gives o) = totalMaxNumber (o .max)
 maxNumber (refused n) = beyond + n
 
 abbrev pub emptiableNumber : Answer Bool → ℕ

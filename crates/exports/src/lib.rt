@@ -9,16 +9,20 @@ ghost use Rattle.entries.specs.ItemAnswer.{itemBytes};
 ghost use Rattle.entries.specs.TidyAnswer.{tidyAnswer, tidyBuffer};
 ghost use Rattle.chain.specs.Answer.{chainAnswer, chainBuffer};
 ghost use Rattle.marking.specs.Answer.{markSheet};
-ghost use Rattle.exports.specs.Numbers.{markNumber, minNumber, maxNumber, emptiableNumber, countNumber, joinedNumber, written};
+ghost use Rattle.exports.specs.Numbers.{markNumber, totalMinNumber, totalMaxNumber, minNumber, maxNumber, emptiableNumber, countNumber, joinedNumber, written};
 use chain::JoinedAnswer;
 use entries::EmptiableAnswer;
 use entries::TidiedAnswer;
 use entries::TotalAnswer;
 use marking::MarkAnswer;
-use particle::MaxOccurs;
+use totals::TotalMax;
+use totals::TotalMin;
 
-// 2 to the power 32: no minimum or bounded maximum reaches it.
+// 2 to the power 32: no exact minimum and no bounded maximum reaches it.
 const BEYOND: u64 = 4294967296;
+
+// 2 to the power 33: no refusal's number reaches it either.
+const TOO_LARGE: u64 = 8589934592;
 
 // What is added to a refusal's number in place of a mark.
 const REFUSED: u32 = 1000;
@@ -36,18 +40,41 @@ pub extern "C" fn marker_mark(s: &[u8]) -> u32
     }
 }
 
-// The least number of the tree's total range, or 2^32 + N where the tree is refused with N.
+fn total_min_number(m: TotalMin) -> u64
+    ensures { λ r. ⌜ r ≡ totalMinNumber m ⌝ }
+{
+    match m {
+        TotalMin::Exact(n) => n as u64,
+        TotalMin::TooLarge => TOO_LARGE,
+    }
+}
+
+fn total_max_number(m: TotalMax) -> u64
+    ensures { λ r. ⌜ r ≡ totalMaxNumber m ⌝ }
+{
+    match m {
+        TotalMax::Bounded(n) => n as u64,
+        TotalMax::TooLarge => TOO_LARGE,
+        TotalMax::Unbounded => BEYOND,
+    }
+}
+
+// The least number of the tree's total range, 2^33 where it is too large, or 2^32 + N where the tree is refused with N.
 #[no_mangle]
 pub extern "C" fn marker_total_min(t: &[u8]) -> u64
     ensures { λ r. ⌜ r ≡ minNumber (answer (refusalAlone (now (t .entry))) (total (tree (now (t .entry))))) ⌝ }
 {
     match entries::total_range(t) {
-        TotalAnswer::Total(o) => o.min as u64,
+        TotalAnswer::Total(o) => {
+            let min = o.min;
+            total_min_number(min)
+        }
         TotalAnswer::Refused(r) => BEYOND + (intake::number(r) as u64),
     }
 }
 
-// The greatest number of the tree's total range, 2^32 where it is unbounded, or 2^32 + N where the tree is refused with N.
+// The greatest number of the tree's total range, 2^33 where it is too large, 2^32 where it is unbounded, or 2^32 + N where the tree is
+// refused with N.
 #[no_mangle]
 pub extern "C" fn marker_total_max(t: &[u8]) -> u64
     ensures { λ r. ⌜ r ≡ maxNumber (answer (refusalAlone (now (t .entry))) (total (tree (now (t .entry))))) ⌝ }
@@ -55,10 +82,7 @@ pub extern "C" fn marker_total_max(t: &[u8]) -> u64
     match entries::total_range(t) {
         TotalAnswer::Total(o) => {
             let max = o.max;
-            match max {
-                MaxOccurs::Bounded(n) => n as u64,
-                MaxOccurs::Unbounded => BEYOND,
-            }
+            total_max_number(max)
         }
         TotalAnswer::Refused(r) => BEYOND + (intake::number(r) as u64),
     }

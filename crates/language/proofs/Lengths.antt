@@ -1,19 +1,25 @@
 -- The number of names of every word that a tree allows lies within the tree's total range. Assumes nothing.
-use mathlib.Core.Bool.{Bool, true, false}
 use mathlib.Core.List.{List, _∷_}
 use mathlib.Core.Logic.{inl, inr}
 use mathlib.Core.Path.{_≡_, refl, ap, _∙_, subst}
-use Prim.Native.Nat.{ℕ, zero, suc, _+_, _*_, _≤_}
+use Prim.Native.Nat.{ℕ, zero, suc, _+_, _*_, _≤_, _<_}
 use native.Mathlib.Nat.{le-trans, mul-le-mul-right}
 use native.Mathlib.Omega.{arith}
-use lib.Dec.{leb}
 use lib.ListN.{length, length-append}
 use Rattle.particle.specs.declared.MaxOccurs.{MaxOccurs}
 use Rattle.particle.specs.declared.MaxOccurs.the-variants.{Bounded, Unbounded}
 use Rattle.particle.specs.declared.Occurs.{Occurs}
 use Rattle.particle.specs.Tree.{Head, element, wildcard, sequence, choice, all, Particle, fold}
 use Rattle.particle.proofs.Folds.{Matches, ended, next, fold-matches}
-use Rattle.totals.specs.Total.{cap, capMax, addMax, mulMax, maxMax, addRange, mulRange, spanRange, sum, span, totalFrom, total}
+use Rattle.totals.specs.declared.ranges.TotalMin.{TotalMin}
+use Rattle.totals.specs.declared.ranges.TotalMin.the-variants as least
+use Rattle.totals.specs.declared.ranges.TotalMax.{TotalMax}
+use Rattle.totals.specs.declared.ranges.TotalMax.the-variants as most
+use Rattle.totals.specs.declared.ranges.TotalRange.{TotalRange}
+use Rattle.totals.specs.Exact.{addMax, mulMax, maxMax, addRange, mulRange, spanRange, sum, span, exactFrom, exactTotal}
+use Rattle.totals.specs.Total.{largest, cutMin, cutBounded, cutMax, cut, total}
+use Rattle.totals.proofs.Cuts.{min-within, min-above, bounded-within, bounded-above}
+use Rattle.totals.proofs.CutSums.{Side, small, large, side}
 use Rattle.language.specs.Language.{Words, InOrder, OneOf, Inserted, here, later, Blocks, joined, AnyOrder, AtMost, Rounds, Name, Names, wordsFrom, Allows}
 use Rattle.language.proofs.Rounds.{Many, names-length}
 
@@ -21,21 +27,27 @@ use Rattle.language.proofs.Rounds.{Many, names-length}
 abbrev pub Within : ℕ → Occurs → Type 0
 Within n p = (p .min ≤ n) × AtMost n (p .max)
 
+-- the number n lies within a total range: above 4294967295 where the minimum is too large; a maximum that is too large bounds it by no number of 32 bits
+abbrev pub AtLeastTotal : ℕ → TotalMin → Type 0
+AtLeastTotal n (least.Exact m) = m ≤ n
+AtLeastTotal n least.TooLarge = largest < n
+
+abbrev pub AtMostTotal : ℕ → TotalMax → Type 0
+AtMostTotal n (most.Bounded m) = n ≤ m
+AtMostTotal n most.TooLarge = Unit {0}
+AtMostTotal n most.Unbounded = Unit {0}
+
+abbrev pub WithinTotal : ℕ → TotalRange → Type 0
+WithinTotal n t = AtLeastTotal n (t .min) × AtMostTotal n (t .max)
+
 -- the words of W have lengths within t
 abbrev pub Measured : Words → Occurs → Type 0
 Measured W t = (w : List ℕ) → W w → Within (length w) t
 
 -- Ranges -------------------------------------------------------------------------
 
-pub cap-most : (n m : ℕ) → n ≤ m → AtMost n (capMax m)
-cap-most n m h = go (leb m cap)
-  where
-    go : (c : Bool) → AtMost n (elim c as (λ _. MaxOccurs) [ true ↦ Bounded m | false ↦ Unbounded ])
-    go true = h
-    go false = tt
-
 add-most : (x y : MaxOccurs) (a b : ℕ) → AtMost a x → AtMost b y → AtMost (a + b) (addMax x y)
-add-most (Bounded m) (Bounded n) a b h k = cap-most (a + b) (m + n) (omega arith)
+add-most (Bounded m) (Bounded n) a b h k = omega arith
 add-most (Bounded m) Unbounded a b h k = tt
 add-most Unbounded y a b h k = tt
 
@@ -60,7 +72,7 @@ span-right a t s (l, h) = (omega arith, max-right (t .max) (s .max) a h)
 
 -- n rounds of len names in all
 mul-most : (x y : MaxOccurs) (n len : ℕ) → AtMost n x → ((b : ℕ) → y ≡ Bounded b → len ≤ n * b) → (n ≡ 0 → len ≡ 0) → AtMost len (mulMax x y)
-mul-most (Bounded a) (Bounded b) n len h k z = cap-most len (a * b) (le-trans (k b refl) (mul-le-mul-right b h))
+mul-most (Bounded a) (Bounded b) n len h k z = le-trans (k b refl) (mul-le-mul-right b h)
 mul-most (Bounded zero) Unbounded n len h k z = omega (arith, z (omega arith))
 mul-most (Bounded (suc a)) Unbounded n len h k z = tt
 mul-most Unbounded (Bounded zero) n len h k z = omega (arith, k 0 refl)
@@ -114,14 +126,34 @@ rounds-length p W t m w r = (
 names-measured : (S : ℕ → Type 0) (p : Occurs) → Measured (Rounds p (Name S)) p
 names-measured S p w r = rw (names-length S (r .number) w (r .rounds)) (r .least, r .most)
 
+-- what lies within the exact range lies within the total range
+cut-within : (n : ℕ) (e : Occurs) → Within n e → WithinTotal n (cut e)
+cut-within n e (l, h) = (low (side (e .min)), high (e .max) h)
+  where
+    low : Side (e .min) → AtLeastTotal n (cutMin (e .min))
+    low (small m) = rw (min-within (e .min) m) l
+    low (large m) = rw (min-above (e .min) m) (omega arith)
+
+    high : (x : MaxOccurs) → AtMost n x → AtMostTotal n (cutMax x)
+    high (Bounded m) k = go (side m)
+      where
+        go : Side m → AtMostTotal n (cutBounded m)
+        go (small g) = rw (bounded-within m g) k
+        go (large g) = rw (bounded-above m g) tt
+    high Unbounded k = tt
+
 module _ (names : Names) where
-  record-length : (h : Head) (Ws : List Words) (ts : List Occurs) → Matches Measured Ws ts → Measured (wordsFrom names h Ws) (totalFrom h ts)
+  record-length : (h : Head) (Ws : List Words) (ts : List Occurs) → Matches Measured Ws ts → Measured (wordsFrom names h Ws) (exactFrom h ts)
   record-length (element l p) Ws ts m = names-measured (names l) p
   record-length (wildcard l p) Ws ts m = names-measured (names l) p
   record-length (sequence p) Ws ts m = rounds-length p (InOrder Ws) (sum ts) (in-order-length m)
   record-length (choice p) Ws ts m = rounds-length p (OneOf Ws) (span ts) (one-of-length m)
   record-length (all p) Ws ts m = rounds-length p (AnyOrder Ws) (sum ts) (λ w (bs, e, b). rw e (blocks-length m bs b))
 
-  pub total-length : (x : Particle) (w : List ℕ) → Allows names x w → Within (length w) (total x)
-  unfolding Allows total
-  total-length x = record-length (x .head) (fold (wordsFrom names) (x .items)) (fold totalFrom (x .items)) (fold-matches Measured (wordsFrom names) totalFrom record-length (x .items))
+  pub exact-length : (x : Particle) (w : List ℕ) → Allows names x w → Within (length w) (exactTotal x)
+  unfolding Allows exactTotal
+  exact-length x = record-length (x .head) (fold (wordsFrom names) (x .items)) (fold exactFrom (x .items)) (fold-matches Measured (wordsFrom names) exactFrom record-length (x .items))
+
+  pub total-length : (x : Particle) (w : List ℕ) → Allows names x w → WithinTotal (length w) (total x)
+  unfolding total
+  total-length x w a = cut-within (length w) (exactTotal x) (exact-length x w a)

@@ -29,3 +29,13 @@ module _ (P : Head → Type 0) where
   pub throughout-heads : (x : Particle) → EachHead P (single x) → Throughout (λ h k. P h) x
   unfolding EachHead
   throughout-heads x e = (e .0, every-head (x .items) (e .1))
+
+  each-head : (x : Items) → Every (λ h k. P h) x → EachHead P x
+  unfolding EachHead
+  each-head none ps = tt
+  each-head (item h k r) ((p, ps), qs) = (p, each-head k ps, each-head r qs)
+
+  -- and the other way round
+  pub heads-each : (x : Particle) → Throughout (λ h k. P h) x → EachHead P (single x)
+  unfolding EachHead
+  heads-each x (p, ps) = (p, each-head (x .items) ps, tt)

@@ -3,7 +3,8 @@ use mathlib.Core.Path.{_≡_, refl}
 use Rattle.particle.specs.Tree.{_then_, takeI, dropI, countI, sizeI, fold, build, recordsN, records, decode, tree}
 use Rattle.particle.specs.Encode.{flat, joined, encode}
 use Rattle.totals.specs.Empty.{emptiable}
-use Rattle.totals.specs.Total.{sum, span, total}
+use Rattle.totals.specs.Exact.{sum, span, exactTotal}
+use Rattle.totals.specs.Total.{total}
 use Rattle.tidying.specs.Tidy.{tidyItems, tidy}
 use Rattle.rules.specs.Verdicts.{passes}
 use Rattle.rules.specs.Walk.{leftOver, recurseOrdered, alternatives, eachMember, takeNamed, untaken, recurseUnordered}
@@ -24,5 +25,5 @@ unfolding markSheet markOfSheet sheetRefusal every kindsOf leavesIn refusalIn sc
 printed-passes = refl
 
 pub examples-answered : AllAnswered examples
-unfolding markSheet markOfSheet sheetRefusal every kindsOf leavesIn leavesBytes encodeSheet encode joined flat refusalIn scan waiting tree decode records recordsN build takeI dropI mark markTidied restrict restrictTo rule recurseOrdered leftOver alternatives eachMember recurseUnordered takeNamed untaken tidyAnswer tidyBuffer tidy tidyItems _then_ emptiable total sum span fold countI sizeI
+unfolding markSheet markOfSheet sheetRefusal every kindsOf leavesIn leavesBytes encodeSheet encode joined flat refusalIn scan waiting tree decode records recordsN build takeI dropI mark markTidied restrict restrictTo rule recurseOrdered leftOver alternatives eachMember recurseUnordered takeNamed untaken tidyAnswer tidyBuffer tidy tidyItems _then_ emptiable total exactTotal sum span fold countI sizeI
 examples-answered = (refl, (refl, (refl, (refl, (refl, (refl, (refl, (refl, (refl, (refl, (refl, (refl, (refl, ((refl, refl), tt))))))))))))))

@@ -5,6 +5,7 @@ pub mod FilledRows
 pub mod Filling
 pub mod EachRecord
 pub mod Inclusion
+pub mod CappedMarks
 pub mod Examples
 pub mod Papers
 pub mod TidiedPart

@@ -17,7 +17,7 @@ use Rattle.particle.specs.Encode.{kindNumber}
 use Rattle.particle.proofs.ByKind.{group-kind}
 use Rattle.particle.proofs.Laws.{tree-is, row-is, items-shorter}
 use Rattle.particle.proofs.Runs.{items-run}
-use Rattle.totals.specs.Total.{total}
+use Rattle.totals.specs.Total.{total, totalOk}
 use Rattle.rules.specs.Verdicts.{Mark, fails, Leaves, Tables}
 use Rattle.rules.specs.Combine.{_orFails_, _andThen_, combineReadings}
 use Rattle.rules.specs.Walk.{_⟦_⟧, Judge, recurseOrdered, alternatives, eachMember}
@@ -185,10 +185,10 @@ module _ {leaves tables : List ℕ} {n : ℕ} {once any : Bool} {d b : List ℕ}
   choices-arm key = arm 3 3 (omega arith) key ∙ rw (once-never di)
 
   -- a group against a wildcard
-  group-rule : (i : ℕ) → 2 ≤ i → rule L T J (headFrom i (dr .leaf) p) di (wildcard (br .leaf) q) bi ≡ rangeOk (total (headFrom i (dr .leaf) p ⟦ di ⟧)) q orFails 113 andThen eachMember (λ x. J x (wildcard (br .leaf) anyNumber ⟦ bi ⟧)) di
+  group-rule : (i : ℕ) → 2 ≤ i → rule L T J (headFrom i (dr .leaf) p) di (wildcard (br .leaf) q) bi ≡ totalOk (total (headFrom i (dr .leaf) p ⟦ di ⟧)) q orFails 113 andThen eachMember (λ x. J x (wildcard (br .leaf) anyNumber ⟦ bi ⟧)) di
   unfolding rule
   group-rule i two =
-      group-kind (λ d′. rule L T J d′ di (wildcard (br .leaf) q) bi ≡ rangeOk (total (d′ ⟦ di ⟧)) q orFails 113 andThen eachMember (λ x. J x (wildcard (br .leaf) anyNumber ⟦ bi ⟧)) di)
+      group-kind (λ d′. rule L T J d′ di (wildcard (br .leaf) q) bi ≡ totalOk (total (d′ ⟦ di ⟧)) q orFails 113 andThen eachMember (λ x. J x (wildcard (br .leaf) anyNumber ⟦ bi ⟧)) di)
       (dr .leaf) p refl refl refl i two
 
   group-tree : (dk ≡ 0 → ⊥) → tree d ≡ headFrom dk (dr .leaf) p ⟦ di ⟧
@@ -197,12 +197,12 @@ module _ {leaves tables : List ℕ} {n : ℕ} {once any : Bool} {d b : List ℕ}
   any-tree : bk ≡ 1 → asAny true (tree b) ≡ wildcard (br .leaf) anyNumber ⟦ bi ⟧
   any-tree k = rw (side-tree (S .base), own-head (S .base), k)
 
-  pub group-wildcard-arm : (i : ℕ) → 2 ≤ i → 5 * dk + bk ≡ 5 * i + 1 → theMark ≡ rangeOk (total (tree d)) q orFails 113 andThen eachMember (λ x. J x (asAny true (tree b))) di
+  pub group-wildcard-arm : (i : ℕ) → 2 ≤ i → 5 * dk + bk ≡ 5 * i + 1 → theMark ≡ totalOk (total (tree d)) q orFails 113 andThen eachMember (λ x. J x (asAny true (tree b))) di
   group-wildcard-arm i two key =
       let k = derived-kind i 1 (omega arith) key in
       arm i 1 (omega arith) key ∙ group-rule i two ∙ rw (any-tree (base-kind i 1 (omega arith) key), group-tree (omega arith), k)
 
-  pub sequence-choice-arm : 5 * dk + bk ≡ 13 → theMark ≡ rangeOk (timesCount p (dr .count)) q orFails 116 andThen eachMember (λ x. alternatives J 117 x bi) di
+  pub sequence-choice-arm : 5 * dk + bk ≡ 13 → theMark ≡ totalOk (timesCount p (dr .count)) q orFails 116 andThen eachMember (λ x. alternatives J 117 x bi) di
   unfolding rule
   sequence-choice-arm key = arm 2 3 (omega arith) key ∙ rw (row-count (side-items (S .derived)))
 

@@ -3,19 +3,19 @@ use mathlib.Core.Bool.{Bool, true, false}
 use mathlib.Core.Path.{_≡_, sym, ap, _∙_}
 use Prim.Native.Nat.{ℕ}
 use Rattle.particle.specs.declared.Occurs.{Occurs}
-use Rattle.particle.specs.Occurs.{rangeOk}
 use Rattle.rules.specs.Verdicts.{Mark, fails}
 use Rattle.rules.specs.Combine.{_orFails_, _andThen_}
 
-module _ {ok : Bool} {r p : Occurs} (q : Occurs) (e : ok ≡ rangeOk r q) (is : r ≡ p) where
-  ok-is : rangeOk p q ≡ ok
-  ok-is = ap (λ (x : Occurs). rangeOk x q) (sym is) ∙ sym e
+-- the test is `rangeOk` of a pair, or `totalOk` of a total range
+module _ {A : Type 0} (test : A → Occurs → Bool) {ok : Bool} {r p : A} (q : Occurs) (e : ok ≡ test r q) (is : r ≡ p) where
+  ok-is : test p q ≡ ok
+  ok-is = ap (λ (x : A). test x q) (sym is) ∙ sym e
 
-  pub range-fails : {n k : ℕ} (rest : Mark) → n ≡ k → ok ≡ false → fails n ≡ rangeOk p q orFails k andThen rest
-  range-fails rest same n = rw (ok-is ∙ n, same)
+  pub check-fails : {n k : ℕ} (rest : Mark) → n ≡ k → ok ≡ false → fails n ≡ test p q orFails k andThen rest
+  check-fails rest same n = rw (ok-is ∙ n, same)
 
-  pub range-holds : (k : ℕ) {m rest : Mark} → ok ≡ true → m ≡ rest → m ≡ rangeOk p q orFails k andThen rest
-  range-holds k y a = rw (ok-is ∙ y) a
+  pub check-holds : (k : ℕ) {m rest : Mark} → ok ≡ true → m ≡ rest → m ≡ test p q orFails k andThen rest
+  check-holds k y a = rw (ok-is ∙ y) a
 
 -- the reason for one of two kinds
 pub reason-is : (reason : Bool → ℕ) (b : Bool) {a : Bool} → a ≡ b → reason b ≡ reason a

@@ -13,7 +13,7 @@ ghost use Rattle.particle.specs.Record.{maxRecords};
 ghost use Rattle.particle.specs.Tree.{tree};
 ghost use Rattle.particle.specs.Rows.{row};
 ghost use Rattle.particle.specs.Runs.{Run};
-ghost use Rattle.totals.specs.Total.{total};
+ghost use Rattle.totals.specs.Total.{total, totalOk};
 ghost use Rattle.rules.specs.Combine.{_orFails_, _andThen_, combineReadings};
 ghost use Rattle.rules.specs.Walk.{recurseOrdered, alternatives, eachMember};
 ghost use Rattle.rules.specs.Rule.{timesCount};
@@ -310,9 +310,9 @@ fn group_wildcard(
     requires { ⌜ Run 1 (now group) ⌝ }
     requires { ⌜ Run dn (now ds) ⌝ }
     requires { ⌜ Run 1 (now b) ⌝ }
-    ensures { λ r. ⌜ markOf r ≡ rangeOk (total (tree (now (group .entry)))) q orFails 113 andThen eachMember (λ x. judge (now (leaves .entry)) (now (tables .entry)) n x (asAny true (tree (now (b .entry))))) (row dn (now (ds .entry))) ⌝ }
+    ensures { λ r. ⌜ markOf r ≡ totalOk (total (tree (now (group .entry)))) q orFails 113 andThen eachMember (λ x. judge (now (leaves .entry)) (now (tables .entry)) n x (asAny true (tree (now (b .entry))))) (row dn (now (ds .entry))) ⌝ }
 {
-    if !particle::range_ok(totals::effective_total_range(group), q) {
+    if !totals::total_ok(totals::effective_total_range(group), q) {
         return Verdict::Violation(Reason::TotalRange);
     }
     let mut seen = false;
@@ -351,9 +351,9 @@ fn sequence_choice(
     requires { ⌜ Run dn (now ds) ⌝ }
     requires { ⌜ dn ≤ maxRecords ⌝ }
     requires { ⌜ Run bn (now bs) ⌝ }
-    ensures { λ r. ⌜ markOf r ≡ rangeOk (timesCount p dn) q orFails 116 andThen eachMember (λ x. alternatives (judge (now (leaves .entry)) (now (tables .entry)) n) 117 x (row bn (now (bs .entry)))) (row dn (now (ds .entry))) ⌝ }
+    ensures { λ r. ⌜ markOf r ≡ totalOk (timesCount p dn) q orFails 116 andThen eachMember (λ x. alternatives (judge (now (leaves .entry)) (now (tables .entry)) n) 117 x (row bn (now (bs .entry)))) (row dn (now (ds .entry))) ⌝ }
 {
-    if !particle::range_ok(times_count(p, dn as u32), q) {
+    if !totals::total_ok(times_count(p, dn as u32), q) {
         return Verdict::Violation(Reason::SequenceTotal);
     }
     let mut seen = false;

@@ -4,11 +4,14 @@ ghost use Prim.Native.Nat.{_≤_};
 ghost use Rattle.particle.specs.Occurs.{exactly};
 ghost use Rattle.particle.specs.Tree.{headOf, pairOf};
 ghost use Rattle.particle.specs.Encode.{kindNumber};
-ghost use Rattle.rules.specs.Rule.{timesCount};
+ghost use Rattle.totals.specs.Total.{cutMax};
+ghost use Rattle.rules.specs.Rule.{timesCountMax, timesCount};
 ghost use Rattle.restriction.specs.Views.{onceHead, anyHead};
 use particle::MaxOccurs;
 use particle::Occurs;
 use particle::Record;
+use totals::TotalMax;
+use totals::TotalRange;
 
 // A record's kind number: a number above 4 counts as an all-group's.
 pub fn kind_of(r: Record) -> u8
@@ -56,20 +59,23 @@ pub fn base_range(r: Record, any: bool) -> Occurs
     particle::range(r)
 }
 
-// A pair times an item count; unbounded stays unbounded.
-pub fn times_count(p: Occurs, n: u32) -> Occurs
+// A maximum times an item count; unbounded stays unbounded.
+fn times_count_max(m: MaxOccurs, n: u32) -> TotalMax
+    ensures { λ r. ⌜ r ≡ cutMax (timesCountMax m n) ⌝ }
+{
+    match m {
+        MaxOccurs::Unbounded => TotalMax::Unbounded,
+        MaxOccurs::Bounded(k) => totals::product_max(k, n),
+    }
+}
+
+// A pair times an item count.
+pub fn times_count(p: Occurs, n: u32) -> TotalRange
     ensures { λ o. ⌜ o ≡ timesCount p n ⌝ }
 {
     let pmax = p.max;
-    let min = totals::saturating_mul(p.min, n);
-    match pmax {
-        MaxOccurs::Unbounded => Occurs {
-            min: min,
-            max: MaxOccurs::Unbounded,
-        },
-        MaxOccurs::Bounded(m) => Occurs {
-            min: min,
-            max: totals::checked_mul(m, n),
-        },
+    TotalRange {
+        min: totals::product_min(p.min, n),
+        max: times_count_max(pmax, n),
     }
 }

@@ -2,7 +2,8 @@
 use mathlib.Core.Path.{refl}
 use Rattle.particle.specs.Tree.{_then_, countI, sizeI, fold}
 use Rattle.totals.specs.Empty.{emptiable}
-use Rattle.totals.specs.Total.{sum, span, total}
+use Rattle.totals.specs.Exact.{sum, span, exactTotal}
+use Rattle.totals.specs.Total.{total}
 use Rattle.tidying.specs.Tidy.{tidyItems, tidy}
 use Rattle.rules.specs.Walk.{leftOver, recurseOrdered, alternatives, eachMember, takeNamed, untaken, recurseUnordered}
 use Rattle.rules.specs.Rule.{rule}
@@ -10,5 +11,5 @@ use Rattle.rules.specs.Mark.{restrictTo, restrict, markTidied, mark}
 use Rattle.rules.specs.Examples.{AllHold, examples}
 
 pub examples-hold : AllHold examples
-unfolding mark markTidied restrict restrictTo rule recurseOrdered leftOver alternatives eachMember recurseUnordered takeNamed untaken tidy tidyItems _then_ emptiable total sum span fold countI sizeI
+unfolding mark markTidied restrict restrictTo rule recurseOrdered leftOver alternatives eachMember recurseUnordered takeNamed untaken tidy tidyItems _then_ emptiable total exactTotal sum span fold countI sizeI
 examples-hold = (refl, (refl, (refl, (refl, (refl, (refl, (refl, (refl, (refl, (refl, (refl, (refl, (refl, (refl, tt))))))))))))))

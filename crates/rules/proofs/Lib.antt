@@ -10,3 +10,4 @@ pub mod Sound
 pub mod Inclusion
 pub mod Examples
 pub mod PremisesNeeded
+pub mod CappedMarks

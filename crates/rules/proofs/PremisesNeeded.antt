@@ -10,11 +10,12 @@ use borrow.Author.Tests.{eqb-true}
 use Rattle.particle.specs.declared.MaxOccurs.the-variants.{Bounded}
 use Rattle.particle.specs.Tree.{Particle, _then_, countI, sizeI, fold}
 use Rattle.totals.specs.Empty.{emptiable}
-use Rattle.totals.specs.Total.{sum, span, total}
+use Rattle.totals.specs.Exact.{sum, span, exactTotal}
+use Rattle.totals.specs.Total.{total}
 use Rattle.language.specs.Language.{Allows}
 use Rattle.language.specs.Premises.{Throughout, NoZeroMaximum, NoEmptyChoice, Ordered}
 use Rattle.language.proofs.Rounds.{one-round, no-round, only-round}
-use Rattle.language.proofs.Lengths.{total-length}
+use Rattle.language.proofs.Lengths.{exact-length}
 use Rattle.language.proofs.Examples.{own}
 use Rattle.tidying.specs.Tidy.{tidyItems, tidy}
 use Rattle.rules.specs.Verdicts.{Mark, passes}
@@ -89,9 +90,9 @@ pub premises-needed :
     × Counterexample (Supposed letters) ZeroMaximumAllowed (a once) (S (pair 0 0) (a once ∷ []))
     -- an empty choice in the base, a | S[a,C[]]: the base allows nothing
     × Counterexample (Supposed letters) EmptyChoiceAllowed (a once) (S once (a once ∷ C once [] ∷ []))
-unfolding mark markTidied restrict restrictTo rule recurseOrdered leftOver alternatives eachMember tidy tidyItems _then_ emptiable total sum span fold countI sizeI Allows
+unfolding mark markTidied restrict restrictTo rule recurseOrdered leftOver alternatives eachMember tidy tidyItems _then_ emptiable total exactTotal sum span fold countI sizeI Allows
 premises-needed = (
-  (never-b, letter-a, own-among, refl, ([], one-round (omega arith) (omega arith) [] (inr (inl (no-round refl))), λ r. omega (arith, total-length own (a once) [] r .0))),
-  (letter-a, no-rounds, own-among, refl, (0 ∷ [], one-a, λ r. omega (arith, total-length own (S (pair 0 0) (a once ∷ [])) (0 ∷ []) r .1))),
+  (never-b, letter-a, own-among, refl, ([], one-round (omega arith) (omega arith) [] (inr (inl (no-round refl))), λ r. omega (arith, exact-length own (a once) [] r .0))),
+  (letter-a, no-rounds, own-among, refl, (0 ∷ [], one-a, λ r. omega (arith, exact-length own (S (pair 0 0) (a once ∷ [])) (0 ∷ []) r .1))),
   (letter-a, with-empty-choice, own-among, refl, (0 ∷ [], one-a, λ r. let p = only-round refl (0 ∷ []) r in only-round refl (p .right .front) (p .right .left))),
 )

@@ -11,7 +11,7 @@ use Rattle.particle.specs.Occurs.{rangeOk, exactly}
 use Rattle.particle.specs.Tree.{Head, element, wildcard, sequence, choice, all, Items, none, item, Particle, pairOf, countI}
 use Rattle.particle.proofs.Tests.{both-true, right-true}
 use Rattle.totals.specs.Empty.{optional, emptiable}
-use Rattle.totals.specs.Total.{total}
+use Rattle.totals.specs.Total.{total, totalOk}
 use Rattle.tidying.specs.Tidy.{tidy}
 use Rattle.rules.specs.Verdicts.{Mark, passes, undecided, fails, Leaves, Tables}
 use Rattle.rules.specs.Combine.{_orFails_, _andThen_, _orElse_, combineReadings}
@@ -143,7 +143,7 @@ module _ (L : Leaves) (T : Tables) (P : PaperVerdicts T) where
 
   module _ (J : Judge) (H : AllShown J) where
     group-shown : (d : Head) (di : Items) (m : ℕ) (q : Occurs) (bi : Items) → Shown (groupWildcard L T J d di m q bi)
-    group-shown d di m q bi = guarded (rangeOk (total (d ⟦ di ⟧)) q) 113 refl _ (each-shown (λ x. J x (wildcard m anyNumber ⟦ bi ⟧)) (λ x. H x (wildcard m anyNumber ⟦ bi ⟧)) di)
+    group-shown d di m q bi = guarded (totalOk (total (d ⟦ di ⟧)) q) 113 refl _ (each-shown (λ x. J x (wildcard m anyNumber ⟦ bi ⟧)) (λ x. H x (wildcard m anyNumber ⟦ bi ⟧)) di)
 
     rule-shown : (d : Head) (di : Items) (b : Head) (bi : Items) → Shown (rule L T J d di b bi)
     unfolding rule
@@ -160,7 +160,7 @@ module _ (L : Leaves) (T : Tables) (P : PaperVerdicts T) where
     rule-shown (sequence p) di (element m q) bi = H _ _
     rule-shown (sequence p) di (wildcard m q) bi = group-shown (sequence p) di m q bi
     rule-shown (sequence p) di (sequence q) bi = guarded (rangeOk p q) 105 refl _ (walk-shown J H false di bi)
-    rule-shown (sequence p) di (choice q) bi = guarded (rangeOk (timesCount p (countI di)) q) 116 refl _ (each-shown (λ x. alternatives J 117 x bi) (λ x. alternatives-shown J H 117 refl x bi) di)
+    rule-shown (sequence p) di (choice q) bi = guarded (totalOk (timesCount p (countI di)) q) 116 refl _ (each-shown (λ x. alternatives J 117 x bi) (λ x. alternatives-shown J H 117 refl x bi) di)
     rule-shown (sequence p) di (all q) bi = guarded (rangeOk p q) 118 refl _ (unordered-shown di bi)
     rule-shown (choice p) di (element m q) bi = H _ _
     rule-shown (choice p) di (wildcard m q) bi = group-shown (choice p) di m q bi

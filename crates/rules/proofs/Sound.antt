@@ -15,7 +15,9 @@ use Rattle.particle.specs.declared.Occurs.{Occurs}
 use Rattle.particle.specs.Occurs.{maxOk, rangeOk, exactly}
 use Rattle.particle.specs.Tree.{Head, element, wildcard, sequence, choice, all, Items, none, item, Particle, countI, fold}
 use Rattle.particle.proofs.Tests.{and-true}
-use Rattle.totals.specs.Total.{capMin, total}
+use Rattle.totals.specs.Exact.{exactTotal}
+use Rattle.totals.specs.Total.{total, totalOk}
+use Rattle.totals.proofs.Within.{ok-exact}
 use Rattle.language.specs.Language.{Words, OneOf, AtMost, Rounds, Name, Names, Allows}
 use Rattle.language.specs.Premises.{Every, Throughout}
 use Rattle.language.proofs.AtMost.{at-most}
@@ -23,12 +25,12 @@ use Rattle.language.proofs.Words.{_⊆_, in-order-one, one-of-one}
 use Rattle.language.proofs.Premises.{every-map}
 use Rattle.language.proofs.Rounds.{Many, many-mono, many-many, rounds-mono, one-round, only-round, names-length}
 use Rattle.language.proofs.Joining.{AllWithin, one-of-within, in-order-many, in-order-within, rounds-within, any-order-within, names-closed}
-use Rattle.language.proofs.Lengths.{Within, cap-most, total-length}
+use Rattle.language.proofs.Lengths.{Within, exact-length}
 use Rattle.tidying.proofs.Premises.{item-some}
 use Rattle.rules.specs.Verdicts.{Mark, Leaves, Tables}
 use Rattle.rules.specs.Combine.{_orFails_, _andThen_}
 use Rattle.rules.specs.Walk.{_⟦_⟧, Judge, recurseOrdered, alternatives, eachMember, recurseUnordered}
-use Rattle.rules.specs.Rule.{anyNumber, timesCountMax, timesCount, groupWildcard, rule}
+use Rattle.rules.specs.Rule.{anyNumber, timesCountMax, exactTimesCount, timesCount, groupWildcard, rule}
 use Rattle.rules.specs.Mark.{steps, restrictTo, restrict}
 use Rattle.rules.specs.Demand.{NamesAmong}
 use Rattle.rules.proofs.Passing.{Passes, guard-passes, readings-pass}
@@ -59,16 +61,16 @@ names-in-range S t q h w (lo, hi) r =
     }
 
 times-most : (x : MaxOccurs) (n c : ℕ) → AtMost n x → AtMost (n * c) (timesCountMax x c)
-times-most (Bounded m) n c h = cap-most (n * c) (m * c) (mul-le-mul-right c h)
+times-most (Bounded m) n c h = mul-le-mul-right c h
 times-most Unbounded n c h = tt
 
 -- rounds of c words each are so many times c words
-rounds-times : {p q : Occurs} (c : ℕ) {W X : Words} → rangeOk (timesCount p c) q ≡ true → W ⊆ Many c X → Rounds p W ⊆ Rounds q X
+rounds-times : {p q : Occurs} (c : ℕ) {W X : Words} → totalOk (timesCount p c) q ≡ true → W ⊆ Many c X → Rounds p W ⊆ Rounds q X
 rounds-times {p} {q} c {X} h f w r =
-    let (l, m) = and-true (leb (q .min) (capMin (p .min * c))) (maxOk (timesCountMax (p .max) c) (q .max)) h in
+    let (l, m) = and-true (leb (q .min) (p .min * c)) (maxOk (timesCountMax (p .max) c) (q .max)) (ok-exact (exactTimesCount p c) q h) in
     record {
       number = r .number * c;
-      least = omega (arith, leb-true (q .min) (capMin (p .min * c)) l, mul-le-mul-right c (r .least));
+      least = omega (arith, leb-true (q .min) (p .min * c) l, mul-le-mul-right c (r .least));
       most = at-most (r .number * c) (timesCountMax (p .max) c) (q .max) m (times-most (p .max) (r .number) c (r .most));
       rounds = many-many (r .number) c X f w (r .rounds);
     }
@@ -108,13 +110,13 @@ module _ (L : Leaves) (T : Tables) (derived base : Names) (N : NamesAmong L T de
     group-sound : (d : Head) (di : Items) (m : ℕ) (q : Occurs) (bi : Items) → Every (Known L) di → Throughout (Regular L) (wildcard m q ⟦ bi ⟧) → Passes (groupWildcard L T J d di m q bi)
         → (AllWithin (each derived di) (Rounds anyNumber (Name (base m))) → Allows derived (d ⟦ di ⟧) ⊆ Rounds anyNumber (Name (base m)))
         → Allows derived (d ⟦ di ⟧) ⊆ Allows base (wildcard m q ⟦ bi ⟧)
-    unfolding Allows
+    unfolding Allows total
     group-sound d di m q bi ks (R, rs) t f w x =
         let R′ : Regular L (wildcard m anyNumber) bi = record { known = R .known; ordered = tt; nonzero = unbounded-maximum; nonempty = tt } in
         let member : Particle → Mark = λ y. J y (wildcard m anyNumber ⟦ bi ⟧) in
-        let (h, s) = guard-passes (rangeOk (total (d ⟦ di ⟧)) q) 113 (eachMember member di) t in
+        let (h, s) = guard-passes (totalOk (total (d ⟦ di ⟧)) q) 113 (eachMember member di) t in
         let inside = each-sound L derived base member (Rounds anyNumber (Name (base m))) (λ y K s. S y (wildcard m anyNumber ⟦ bi ⟧) K (R′, rs) s) di ks s in
-        names-in-range (base m) (total (d ⟦ di ⟧)) q h w (total-length derived (d ⟦ di ⟧) w x) (f inside w x)
+        names-in-range (base m) (exactTotal (d ⟦ di ⟧)) q (ok-exact (exactTotal (d ⟦ di ⟧)) q h) w (exact-length derived (d ⟦ di ⟧) w x) (f inside w x)
 
     pub rule-sound : (d : Head) (di : Items) (b : Head) (bi : Items) → Throughout (Known L) (d ⟦ di ⟧) → Throughout (Regular L) (b ⟦ bi ⟧) → Passes (rule L T J d di b bi) → Allows derived (d ⟦ di ⟧) ⊆ Allows base (b ⟦ bi ⟧)
     unfolding rule Allows
@@ -157,7 +159,7 @@ module _ (L : Leaves) (T : Tables) (derived base : Names) (N : NamesAmong L T de
         rounds-mono h (walk-in-order L derived base J S di bi ks rs s)
     rule-sound (sequence p) di (choice q) bi (K, ks) (R, rs) t =
         let one : Words = OneOf (each base bi) in
-        let (h, s) = guard-passes (rangeOk (timesCount p (countI di)) q) 116 (eachMember (λ x. alternatives J 117 x bi) di) t in
+        let (h, s) = guard-passes (totalOk (timesCount p (countI di)) q) 116 (eachMember (λ x. alternatives J 117 x bi) di) t in
         let inside = each-sound L derived base (λ x. alternatives J 117 x bi) one (λ x K s. alternatives-sound L derived base J S 117 x bi K rs s) di ks s in
         rounds-times (countI di) h (λ w x. subst (λ (n : ℕ). Many n one w) (each-length derived di) (in-order-many (each derived di) one inside w x))
     rule-sound (sequence p) di (all q) bi (K, ks) (R, rs) t =

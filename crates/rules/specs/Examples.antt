@@ -3,10 +3,13 @@ use mathlib.Core.List.{List, [], _∷_}
 use mathlib.Core.Path.{_≡_}
 use Prim.Native.Nat.{ℕ}
 use lib.Dec.{eqb}
-use Rattle.particle.specs.declared.MaxOccurs.the-variants.{Bounded, Unbounded}
+use Rattle.particle.specs.declared.MaxOccurs.the-variants.{Bounded}
 use Rattle.particle.specs.declared.Occurs.{Occurs}
 use Rattle.particle.specs.Occurs.{exactly}
 use Rattle.particle.specs.Tree.{element, wildcard, sequence, choice, all, Items, none, item, Particle}
+use Rattle.totals.specs.declared.ranges.TotalMin.the-variants as least
+use Rattle.totals.specs.declared.ranges.TotalMax.the-variants as most
+use Rattle.totals.specs.declared.ranges.TotalRange.{TotalRange}
 use Rattle.totals.specs.Total.{total}
 use Rattle.tidying.specs.Tidy.{tidy}
 use Rattle.rules.specs.Verdicts.{Mark, passes, undecided, fails, Leaves, Tables}
@@ -60,7 +63,7 @@ equalLetters = record { first = λ l m. eqb l m orFails 140; second = λ l m. eq
 -- d | b and its mark; a tree and its total range; a tree and the tidied tree
 pub data Example : Type 0 where
   marked : (derived base : Particle) → Mark → Example
-  totals : Particle → Occurs → Example
+  totals : Particle → TotalRange → Example
   tidied : (tree result : Particle) → Example
 
 abbrev pub Holds : Example → Type 0
@@ -94,9 +97,9 @@ examples =
     ∷ marked (a once) (A once (a once ∷ [])) undecided
     -- S(0,0)[a] | a: 105
     ∷ marked (S (pair 0 0) (a once ∷ [])) (a once) (fails 105)
-    -- totals: S(65535,65535)[a(65537,65537)] gives 4294967295 twice; 65536 in both places gives 4294967295, unbounded
-    ∷ totals (S (exactly 65535) (a (exactly 65537) ∷ [])) (exactly 4294967295)
-    ∷ totals (S (exactly 65536) (a (exactly 65536) ∷ [])) (record { min = 4294967295; max = Unbounded })
+    -- totals: S(65535,65535)[a(65537,65537)] gives 4294967295 twice; 65536 in both places is too large twice (document 02 §2)
+    ∷ totals (S (exactly 65535) (a (exactly 65537) ∷ [])) (record { min = least.Exact 4294967295; max = most.Bounded 4294967295 })
+    ∷ totals (S (exactly 65536) (a (exactly 65536) ∷ [])) (record { min = least.TooLarge; max = most.TooLarge })
     -- tidy S(2,3)[C[a,b]] is C(2,3)[a,b]
     ∷ tidied (S (pair 2 3) (C once (a once ∷ b once ∷ []) ∷ [])) (C (pair 2 3) (a once ∷ b once ∷ []))
     ∷ []

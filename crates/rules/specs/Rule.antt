@@ -7,7 +7,8 @@ use Rattle.particle.specs.declared.MaxOccurs.the-variants.{Bounded, Unbounded}
 use Rattle.particle.specs.declared.Occurs.{Occurs}
 use Rattle.particle.specs.Occurs.{rangeOk, exactly}
 use Rattle.particle.specs.Tree.{Head, element, wildcard, sequence, choice, all, Items, none, item, countI}
-use Rattle.totals.specs.Total.{capMin, capMax, total}
+use Rattle.totals.specs.declared.ranges.TotalRange.{TotalRange}
+use Rattle.totals.specs.Total.{cut, total, totalOk}
 use Rattle.rules.specs.Verdicts.{Mark, undecided, fails, Leaves, Tables}
 use Rattle.rules.specs.Combine.{_orFails_, _andThen_, combineReadings}
 use Rattle.rules.specs.Element.{elementRestrict}
@@ -17,20 +18,23 @@ use Rattle.rules.specs.Walk.{_⟦_⟧, Judge, recurseOrdered, alternativ
 abbrev pub anyNumber : Occurs
 anyNumber = record { min = 0; max = Unbounded }
 
--- a pair times an item count, capped; here unbounded stays unbounded even for 0 items
+-- a pair times an item count, exact and then cut as a total range is; here unbounded stays unbounded even for 0 items
 abbrev pub timesCountMax : MaxOccurs → ℕ → MaxOccurs
-timesCountMax (Bounded m) n = capMax (m * n)
+timesCountMax (Bounded m) n = Bounded (m * n)
 timesCountMax Unbounded n = Unbounded
 
-abbrev pub timesCount : Occurs → ℕ → Occurs
-timesCount p n = record { min = capMin (p .min * n); max = timesCountMax (p .max) n }
+abbrev pub exactTimesCount : Occurs → ℕ → Occurs
+exactTimesCount p n = record { min = p .min * n; max = timesCountMax (p .max) n }
+
+abbrev pub timesCount : Occurs → ℕ → TotalRange
+timesCount p n = cut (exactTimesCount p n)
 
 -- One entry of the rule (`restrict` of the Rust): a derived tree of head d and items di against a base tree of head b and items bi.
 -- J marks what is below: items, and the groups in which an element is wrapped. The comments are document 01's list.
 module _ (L : Leaves) (T : Tables) (J : Judge) where
   -- group, wildcard: the same for every kind of group
   abbrev pub groupWildcard : (d : Head) → Items → (m : ℕ) → Occurs → Items → Mark
-  groupWildcard d di m q bi = rangeOk (total (d ⟦ di ⟧)) q orFails 113 andThen eachMember (λ x. J x (wildcard m anyNumber ⟦ bi ⟧)) di
+  groupWildcard d di m q bi = totalOk (total (d ⟦ di ⟧)) q orFails 113 andThen eachMember (λ x. J x (wildcard m anyNumber ⟦ bi ⟧)) di
 
   unfoldable pub rule : (d : Head) → Items → (b : Head) → Items → Mark
   -- Element, element: the element verdict.
@@ -65,7 +69,7 @@ module _ (L : Leaves) (T : Tables) (J : Judge) where
   rule (choice p) di (wildcard m q) bi = groupWildcard (choice p) di m q bi
   rule (all p) di (wildcard m q) bi = groupWildcard (all p) di m q bi
   -- Sequence, choice: pair times item count within the base pair (116); each member against the alternatives in order, none 117.
-  rule (sequence p) di (choice q) bi = rangeOk (timesCount p (countI di)) q orFails 116 andThen eachMember (λ x. alternatives J 117 x bi) di
+  rule (sequence p) di (choice q) bi = totalOk (timesCount p (countI di)) q orFails 116 andThen eachMember (λ x. alternatives J 117 x bi) di
   -- All against sequence or choice, choice against sequence or all: 115.
   rule (all p) di (sequence q) bi = fails 115
   rule (all p) di (choice q) bi = fails 115

@@ -1,8 +1,11 @@
-pub mod Caps
+pub mod Cuts
+pub mod CutSums
 pub mod Falls
 pub mod Emptiness
 pub mod TotalRange
 pub mod Standard
+pub mod Caps
 pub mod Capped
 pub mod InBytes
+pub mod Within
 pub mod Examples

@@ -1,70 +1,61 @@
--- Total ranges without the cap, and the cap applied once at the end. Assumes nothing: these are definitions.
+-- The exact total range: sums and products over numbers without limit. Assumes nothing: these are definitions.
 use mathlib.Core.List.{List, [], _∷_}
-use Prim.Native.Nat.{_+_, _*_, _≤_}
+use Prim.Native.Nat.{ℕ, zero, suc, _+_, _*_, min, max}
 use Rattle.particle.specs.declared.MaxOccurs.{MaxOccurs}
 use Rattle.particle.specs.declared.MaxOccurs.the-variants.{Bounded, Unbounded}
 use Rattle.particle.specs.declared.Occurs.{Occurs}
 use Rattle.particle.specs.Occurs.{exactly}
-use Rattle.particle.specs.Tree.{Head, element, wildcard, sequence, choice, all, Items, none, item, Particle, fold}
-use Rattle.totals.specs.Total.{cap, capMin, capMax, timesUnbounded, span}
+use Rattle.particle.specs.Tree.{Head, element, wildcard, sequence, choice, all, Particle, fold}
 
-abbrev pub exactAddMax : MaxOccurs → MaxOccurs → MaxOccurs
-exactAddMax (Bounded a) (Bounded b) = Bounded (a + b)
-exactAddMax (Bounded a) Unbounded = Unbounded
-exactAddMax Unbounded b = Unbounded
+abbrev pub addMax : MaxOccurs → MaxOccurs → MaxOccurs
+addMax (Bounded a) (Bounded b) = Bounded (a + b)
+addMax (Bounded a) Unbounded = Unbounded
+addMax Unbounded b = Unbounded
 
-abbrev pub exactMulMax : MaxOccurs → MaxOccurs → MaxOccurs
-exactMulMax (Bounded a) (Bounded b) = Bounded (a * b)
-exactMulMax (Bounded a) Unbounded = timesUnbounded a
-exactMulMax Unbounded (Bounded b) = timesUnbounded b
-exactMulMax Unbounded Unbounded = Unbounded
+-- a number times unbounded: zero times unbounded is 0
+abbrev pub timesUnbounded : ℕ → MaxOccurs
+timesUnbounded zero = Bounded 0
+timesUnbounded (suc n) = Unbounded
 
-abbrev pub exactAdd : Occurs → Occurs → Occurs
-exactAdd a b = record { min = a .min + b .min; max = exactAddMax (a .max) (b .max) }
+abbrev pub mulMax : MaxOccurs → MaxOccurs → MaxOccurs
+mulMax (Bounded a) (Bounded b) = Bounded (a * b)
+mulMax (Bounded a) Unbounded = timesUnbounded a
+mulMax Unbounded (Bounded b) = timesUnbounded b
+mulMax Unbounded Unbounded = Unbounded
 
-abbrev pub exactMul : Occurs → Occurs → Occurs
-exactMul a b = record { min = a .min * b .min; max = exactMulMax (a .max) (b .max) }
+abbrev pub maxMax : MaxOccurs → MaxOccurs → MaxOccurs
+maxMax (Bounded a) (Bounded b) = Bounded (max a b)
+maxMax (Bounded a) Unbounded = Unbounded
+maxMax Unbounded b = Unbounded
 
-unfoldable pub exactSum : List Occurs → Occurs
-exactSum [] = exactly 0
-exactSum (t ∷ ts) = exactAdd t (exactSum ts)
+abbrev pub addRange : Occurs → Occurs → Occurs
+addRange a b = record { min = a .min + b .min; max = addMax (a .max) (b .max) }
 
--- the least minimum and the greatest maximum need no cap of their own: `span` serves
+abbrev pub mulRange : Occurs → Occurs → Occurs
+mulRange a b = record { min = a .min * b .min; max = mulMax (a .max) (b .max) }
+
+-- the least minimum and the greatest maximum of two
+abbrev pub spanRange : Occurs → Occurs → Occurs
+spanRange a b = record { min = min (a .min) (b .min); max = maxMax (a .max) (b .max) }
+
+-- the items' sums
+unfoldable pub sum : List Occurs → Occurs
+sum [] = exactly 0
+sum (t ∷ ts) = addRange t (sum ts)
+
+-- the least minimum and the greatest maximum; empty gives 0, 0
+unfoldable pub span : List Occurs → Occurs
+span [] = exactly 0
+span (t ∷ []) = t
+span (t ∷ u ∷ ts) = spanRange t (span (u ∷ ts))
+
+-- The exact total of a record, from its items: sequence and all, the group's pair times the items' sums; choice, times the least minimum and greatest maximum
 abbrev pub exactFrom : Head → List Occurs → Occurs
 exactFrom (element l p) ts = p
 exactFrom (wildcard l p) ts = p
-exactFrom (sequence p) ts = exactMul p (exactSum ts)
-exactFrom (choice p) ts = exactMul p (span ts)
-exactFrom (all p) ts = exactMul p (exactSum ts)
+exactFrom (sequence p) ts = mulRange p (sum ts)
+exactFrom (choice p) ts = mulRange p (span ts)
+exactFrom (all p) ts = mulRange p (sum ts)
 
--- the exact total range
 unfoldable pub exactTotal : Particle → Occurs
 exactTotal x = exactFrom (x .head) (fold exactFrom (x .items))
-
--- the cap on a whole range
-abbrev pub cappedMax : MaxOccurs → MaxOccurs
-cappedMax (Bounded n) = capMax n
-cappedMax Unbounded = Unbounded
-
-abbrev pub capped : Occurs → Occurs
-capped o = record { min = capMin (o .min); max = cappedMax (o .max) }
-
--- a pair of 32 bits: the cap does not alter it
-abbrev pub Max32 : MaxOccurs → Type 0
-Max32 (Bounded n) = n ≤ cap
-Max32 Unbounded = Unit {0}
-
-abbrev pub Pair32 : Occurs → Type 0
-Pair32 p = (p .min ≤ cap) × Max32 (p .max)
-
--- each leaf's pair is of 32 bits, as every pair is that stands in bytes; of a group's pair nothing is asked
-abbrev pub Leaf32 : Head → Type 0
-Leaf32 (element l p) = Pair32 p
-Leaf32 (wildcard l p) = Pair32 p
-Leaf32 (sequence p) = Unit {0}
-Leaf32 (choice p) = Unit {0}
-Leaf32 (all p) = Unit {0}
-
-unfoldable pub Leaves32 : Items → Type 0
-Leaves32 none = Unit {0}
-Leaves32 (item h k r) = Leaf32 h × Leaves32 k × Leaves32 r

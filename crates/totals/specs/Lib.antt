@@ -1,3 +1,4 @@
 pub mod Empty
-pub mod Total
 pub mod Exact
+pub mod Total
+pub mod Cut

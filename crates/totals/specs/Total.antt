@@ -1,74 +1,53 @@
--- Total ranges, with document 01's caps. Assumes nothing: these are definitions.
-use mathlib.Core.Bool.{true, false}
-use mathlib.Core.List.{List, [], _∷_}
-use Prim.Native.Nat.{ℕ, zero, suc, _+_, _*_, min, max}
+-- The total range: the exact one, cut once at 4294967295, and when it is within a pair (document 02 §2). Assumes nothing: these are definitions.
+use mathlib.Core.Bool.{Bool, true, false, cond, _&&_}
+use Prim.Native.Nat.{ℕ}
 use lib.Dec.{leb}
 use Rattle.particle.specs.declared.MaxOccurs.{MaxOccurs}
-use Rattle.particle.specs.declared.MaxOccurs.the-variants.{Bounded, Unbounded}
+use Rattle.particle.specs.declared.MaxOccurs.the-variants as occurs
 use Rattle.particle.specs.declared.Occurs.{Occurs}
-use Rattle.particle.specs.Occurs.{exactly}
-use Rattle.particle.specs.Tree.{Head, element, wildcard, sequence, choice, all, Particle, fold}
+use Rattle.particle.specs.Tree.{Particle}
+use Rattle.totals.specs.declared.ranges.TotalMin.{TotalMin}
+use Rattle.totals.specs.declared.ranges.TotalMin.the-variants as least
+use Rattle.totals.specs.declared.ranges.TotalMax.{TotalMax}
+use Rattle.totals.specs.declared.ranges.TotalMax.the-variants as most
+use Rattle.totals.specs.declared.ranges.TotalRange.{TotalRange}
+use Rattle.totals.specs.Exact.{exactTotal}
 
-abbrev pub cap : ℕ
-cap = 4294967295
+-- the largest number of 32 bits: what is above it is too large
+abbrev pub largest : ℕ
+largest = 4294967295
 
--- a minimum above the cap becomes the cap
-abbrev pub capMin : ℕ → ℕ
-capMin n = min cap n
+-- a minimum is exact or too large
+abbrev pub cutMin : ℕ → TotalMin
+cutMin n = cond (leb n largest) (least.Exact n) least.TooLarge
 
--- a maximum above the cap becomes unbounded
-abbrev pub capMax : ℕ → MaxOccurs
-capMax n = elim (leb n cap) [ true ↦ Bounded n | false ↦ Unbounded ]
+-- a maximum is bounded, too large or unbounded
+abbrev pub cutBounded : ℕ → TotalMax
+cutBounded n = cond (leb n largest) (most.Bounded n) most.TooLarge
 
-abbrev pub addMax : MaxOccurs → MaxOccurs → MaxOccurs
-addMax (Bounded a) (Bounded b) = capMax (a + b)
-addMax (Bounded a) Unbounded = Unbounded
-addMax Unbounded b = Unbounded
+abbrev pub cutMax : MaxOccurs → TotalMax
+cutMax (occurs.Bounded n) = cutBounded n
+cutMax occurs.Unbounded = most.Unbounded
 
--- a number times unbounded: zero times unbounded is 0
-abbrev pub timesUnbounded : ℕ → MaxOccurs
-timesUnbounded zero = Bounded 0
-timesUnbounded (suc n) = Unbounded
+abbrev pub cut : Occurs → TotalRange
+cut o = record { min = cutMin (o .min); max = cutMax (o .max) }
 
-abbrev pub mulMax : MaxOccurs → MaxOccurs → MaxOccurs
-mulMax (Bounded a) (Bounded b) = capMax (a * b)
-mulMax (Bounded a) Unbounded = timesUnbounded a
-mulMax Unbounded (Bounded b) = timesUnbounded b
-mulMax Unbounded Unbounded = Unbounded
+-- `effective_total_range`: the exact total, and then one cut
+unfoldable pub total : Particle → TotalRange
+total x = cut (exactTotal x)
 
-abbrev pub maxMax : MaxOccurs → MaxOccurs → MaxOccurs
-maxMax (Bounded a) (Bounded b) = Bounded (max a b)
-maxMax (Bounded a) Unbounded = Unbounded
-maxMax Unbounded b = Unbounded
+-- a minimum isn't below b; one that is too large is above 4294967295, so it isn't below any b up to that
+abbrev pub totalMinOk : TotalMin → (b : ℕ) → Bool
+totalMinOk (least.Exact n) b = leb b n
+totalMinOk least.TooLarge b = leb b largest
 
-abbrev pub addRange : Occurs → Occurs → Occurs
-addRange a b = record { min = capMin (a .min + b .min); max = addMax (a .max) (b .max) }
+-- a maximum isn't above b; one that is too large is above every number of 32 bits
+abbrev pub totalMaxOk : TotalMax → (b : MaxOccurs) → Bool
+totalMaxOk t occurs.Unbounded = true
+totalMaxOk (most.Bounded n) (occurs.Bounded b) = leb n b
+totalMaxOk most.TooLarge (occurs.Bounded b) = false
+totalMaxOk most.Unbounded (occurs.Bounded b) = false
 
-abbrev pub mulRange : Occurs → Occurs → Occurs
-mulRange a b = record { min = capMin (a .min * b .min); max = mulMax (a .max) (b .max) }
-
--- the least minimum and the greatest maximum of two
-abbrev pub spanRange : Occurs → Occurs → Occurs
-spanRange a b = record { min = min (a .min) (b .min); max = maxMax (a .max) (b .max) }
-
--- the items' sums
-unfoldable pub sum : List Occurs → Occurs
-sum [] = exactly 0
-sum (t ∷ ts) = addRange t (sum ts)
-
--- the least minimum and the greatest maximum; empty gives 0, 0
-unfoldable pub span : List Occurs → Occurs
-span [] = exactly 0
-span (t ∷ []) = t
-span (t ∷ u ∷ ts) = spanRange t (span (u ∷ ts))
-
--- `effective_total_range` of a record, from its items: sequence and all, the group's pair times the items' sums; choice, times the least minimum and greatest maximum
-abbrev pub totalFrom : Head → List Occurs → Occurs
-totalFrom (element l p) ts = p
-totalFrom (wildcard l p) ts = p
-totalFrom (sequence p) ts = mulRange p (sum ts)
-totalFrom (choice p) ts = mulRange p (span ts)
-totalFrom (all p) ts = mulRange p (sum ts)
-
-unfoldable pub total : Particle → Occurs
-total x = totalFrom (x .head) (fold totalFrom (x .items))
+-- the total range t is within the pair b: its minimum isn't below and its maximum isn't above
+abbrev pub totalOk : TotalRange → Occurs → Bool
+totalOk t b = totalMinOk (t .min) (b .min) && totalMaxOk (t .max) (b .max)

@@ -2,7 +2,7 @@
 use borrow.Author.Needs.{needs}
 use Rattle.entries.specs.Answer.{totalMeaning}
 use Rattle.exports.specs.Numbers.{maxNumber}
-use Rattle.exports.proofs.Means.{number-of, bounded-number, unbounded-number, sum-of}
+use Rattle.exports.proofs.Means.{number-of, sum-of}
 use Rattle.exports.proofs.marker_total_max.Statement.{statement}
 use Rattle.exports.proofs.marker_total_max.Tie as tie
 
@@ -12,13 +12,10 @@ marker-total-max-spec =
     (tie.spec
     (λ c κs. search needs)
     (λ c. search needs)
-    (λ c. search needs)
-    (λ c. search needs)
-    (λ c. search needs)
+    (λ c κs. search needs)
     (λ c. search needs)
     (λ c κs. search needs)
     (λ c. search needs)
     (λ c. search needs)
-    (λ c. search (number-of totalMeaning maxNumber, bounded-number))
-    (λ c. search (number-of totalMeaning maxNumber, unbounded-number))
+    (λ c. search (number-of totalMeaning maxNumber))
     (λ c. search (number-of totalMeaning maxNumber, sum-of)))

@@ -9,9 +9,11 @@ use Rattle.particle.proofs.later.Reads as later-reads
 use Rattle.particle.proofs.range.Reads as range-reads
 use Rattle.particle.proofs.record_at.Reads as record-at-reads
 use Rattle.particle.proofs.Laws.{some-bytes}
-use Rattle.totals.proofs.add_range.Reads as add-range-reads
-use Rattle.totals.proofs.mul_range.Reads as mul-range-reads
-use Rattle.totals.proofs.span_range.Reads as span-range-reads
+use Rattle.totals.proofs.ranges.add_range.Reads as add-range-reads
+use Rattle.totals.proofs.ranges.mul_range.Reads as mul-range-reads
+use Rattle.totals.proofs.ranges.own_range.Reads as own-range-reads
+use Rattle.totals.proofs.ranges.span_range.Reads as span-range-reads
+use Rattle.totals.proofs.ranges.zero.Reads as zero-reads
 use Rattle.totals.proofs.Falls.{ofTree, ofRow, first-row, later-trees, later-falls, items-trees, items-fall}
 use Rattle.totals.proofs.TotalRange.{leaf-total, choice-total, ordered-total, sum-none, span-none, span-one, sum-some, span-some}
 use Rattle.totals.proofs.effective_total_range.Reads as effective-total-range
@@ -60,6 +62,8 @@ module _ (t : ℕ) where
     record-at-reads.Learnt,
     range-reads.Asked,
     range-reads.Learnt,
+    own-range-reads.Asked,
+    own-range-reads.Learnt,
     items-reads.Asked,
     items-reads.Learnt,
     span-below,
@@ -71,16 +75,17 @@ module _ (t : ℕ) where
   )
 
   abbrev span-calls : span-of-lts.Claims
-  span-calls = (total-below, effective-total-range.Post, later-reads.Asked, later-reads.Learnt, span-below, span-of.Post, span-range-reads.Asked, span-range-reads.Learnt)
+  span-calls = (zero-reads.Asked, zero-reads.Learnt, total-below, effective-total-range.Post, later-reads.Asked, later-reads.Learnt, span-below, span-of.Post, span-range-reads.Asked, span-range-reads.Learnt)
 
   abbrev sum-calls : sum-of-lts.Claims
-  sum-calls = (total-below, effective-total-range.Post, later-reads.Asked, later-reads.Learnt, sum-below, sum-of.Post, add-range-reads.Asked, add-range-reads.Learnt)
+  sum-calls = (zero-reads.Asked, zero-reads.Learnt, total-below, effective-total-range.Post, later-reads.Asked, later-reads.Learnt, sum-below, sum-of.Post, add-range-reads.Asked, add-range-reads.Learnt)
 
 pub +effective-total-range+span-of+sum-of-spec : {M : Type 1} → statement M
 +effective-total-range+span-of+sum-of-spec =
     close μ-effective-total-range μ-span-of μ-sum-of
     (λ t. effective-total-range-lts.spec (total-calls t) (total-at t) effective-total-range.Post
     (λ c κs. search (some-bytes {n = 0}))
+    (λ c κs. search needs)
     (λ c κs. search needs)
     (λ c. search leaf-total)
     (λ c. search needs)
@@ -93,6 +98,7 @@ pub +effective-total-range+span-of+sum-of-spec : {M : Type 1} → statement M
     (λ c κs. search needs)
     (λ c. search ordered-total))
     (λ t. span-of-lts.spec (span-calls t) (span-at t) span-of.Post
+    (λ c κs. search needs)
     (λ c. search span-none)
     (λ c κs. (omega arith, search first-row))
     (λ c. search span-one)
@@ -102,6 +108,7 @@ pub +effective-total-range+span-of+sum-of-spec : {M : Type 1} → statement M
     (λ c κs. search needs)
     (λ c. search span-some))
     λ t. sum-of-lts.spec (sum-calls t) (sum-at t) sum-of.Post
+    (λ c κs. search needs)
     (λ c. search sum-none)
     (λ c κs. (omega arith, search first-row))
     (λ c κs. search first-row)

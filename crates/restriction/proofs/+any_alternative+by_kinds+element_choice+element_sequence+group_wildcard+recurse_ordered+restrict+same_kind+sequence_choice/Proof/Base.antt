@@ -14,6 +14,7 @@ use Rattle.restriction.proofs.pairs.times_count.Reads as times-count-re
 use Rattle.restriction.proofs.rows.group_all.Reads as group-all-reads
 use Rattle.restriction.proofs.rows.left_over.Reads as left-over-reads
 use Rattle.totals.proofs.effective_total_range.Reads as effective-total-range-reads
+use Rattle.totals.proofs.total_ok.Reads as total-ok-reads
 use Rattle.totals.proofs.emptiable.Reads as emptiable-reads
 use Rattle.verdicts.proofs.combine_readings.Reads as combine-readings-reads
 use Rattle.verdicts.proofs.definite.Reads as definite-reads
@@ -145,7 +146,7 @@ module _ (t : ℕ) where
   element-sequence-calls = (same-kind-below, same-kind.Post, combine-readings-reads.Asked, combine-readings-reads.Learnt, range-ok-reads.Asked, range-ok-reads.Learnt, recurse-ordered-below, recurse-ordered.Post)
 
   abbrev pub group-wildcard-calls : group-wildcard-lts.Claims
-  group-wildcard-calls = (effective-total-range-reads.Asked, effective-total-range-reads.Learnt, range-ok-reads.Asked, range-ok-reads.Learnt, next-reads.Asked, next-reads.Learnt, by-kinds-below, by-kinds.Post, definite-reads.Asked, definite-reads.Learnt)
+  group-wildcard-calls = (effective-total-range-reads.Asked, effective-total-range-reads.Learnt, total-ok-reads.Asked, total-ok-reads.Learnt, next-reads.Asked, next-reads.Learnt, by-kinds-below, by-kinds.Post, definite-reads.Asked, definite-reads.Learnt)
 
   abbrev pub recurse-ordered-calls : recurse-ordered-lts.Claims
   recurse-ordered-calls = (next-reads.Asked, next-reads.Learnt, restrict-below, restrict.Post, emptiable-reads.Asked, emptiable-reads.Learnt, definite-reads.Asked, definite-reads.Learnt, left-over-reads.Asked, left-over-reads.Learnt)
@@ -157,4 +158,4 @@ module _ (t : ℕ) where
   same-kind-calls = (range-ok-reads.Asked, range-ok-reads.Learnt, recurse-ordered-below, recurse-ordered.Post)
 
   abbrev pub sequence-choice-calls : sequence-choice-lts.Claims
-  sequence-choice-calls = (times-count-reads.Asked, times-count-reads.Learnt, range-ok-reads.Asked, range-ok-reads.Learnt, next-reads.Asked, next-reads.Learnt, any-alternative-below, any-alternative.Post, definite-reads.Asked, definite-reads.Learnt)
+  sequence-choice-calls = (times-count-reads.Asked, times-count-reads.Learnt, total-ok-reads.Asked, total-ok-reads.Learnt, next-reads.Asked, next-reads.Learnt, any-alternative-below, any-alternative.Post, definite-reads.Asked, definite-reads.Learnt)

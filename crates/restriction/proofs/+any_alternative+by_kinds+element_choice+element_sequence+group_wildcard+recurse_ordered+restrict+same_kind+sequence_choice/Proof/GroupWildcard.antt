@@ -5,9 +5,10 @@ use native.Mathlib.Omega.{arith}
 use mathlib.Core.Bool.{true}
 use borrow.Author.Tests.{not-true, not-false}
 use Rattle.particle.specs.Tree.{tree}
+use Rattle.totals.specs.Total.{totalOk}
 use Rattle.restriction.specs.Views.{asAny, judge}
 use Rattle.restriction.proofs.Parts.{first-tree}
-use Rattle.restriction.proofs.Ranges.{range-fails, range-holds}
+use Rattle.restriction.proofs.Ranges.{check-fails, check-holds}
 use Rattle.restriction.proofs.Members.{Members, members-start, members-end, member-passes, member-undecided, member-fails}
 use Rattle.restriction.proofs.group_wildcard.Reads as reads
 use Rattle.restriction.proofs.+any_alternative+by_kinds+element_choice+element_sequence+group_wildcard+recurse_ordered+restrict+same_kind+sequence_choice.Lts-group_wildcard as lts
@@ -26,7 +27,7 @@ group-wildcard-closed t =
     μ-loop
     (λ c κs. search needs)
     (λ c κs. search needs)
-    (λ c. search (range-fails, not-true))
+    (λ c. search (check-fails totalOk, not-true))
     (λ c. search members-start)
     (λ c κs. search first-tree)
     (λ c. omega arith)
@@ -39,6 +40,6 @@ group-wildcard-closed t =
     (λ c. search member-undecided)
     (λ c. search needs)
     (λ c κs. search needs)
-    (λ c. search (range-holds, member-fails, not-false))
+    (λ c. search (check-holds totalOk, member-fails, not-false))
     (λ c κs. search needs)
-    (λ c. search (range-holds, members-end, not-false))
+    (λ c. search (check-holds totalOk, members-end, not-false))

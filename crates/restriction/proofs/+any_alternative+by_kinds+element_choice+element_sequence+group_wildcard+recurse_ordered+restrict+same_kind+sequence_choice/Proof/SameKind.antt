@@ -3,8 +3,9 @@ use Prim.Native.Nat.{ℕ}
 use borrow.Author.Needs.{needs}
 use native.Mathlib.Omega.{arith}
 use mathlib.Core.Bool.{true, false}
+use Rattle.particle.specs.Occurs.{rangeOk}
 use Rattle.restriction.specs.Views.{rangeReason}
-use Rattle.restriction.proofs.Ranges.{range-fails, range-holds, reason-is}
+use Rattle.restriction.proofs.Ranges.{check-fails, check-holds, reason-is}
 use Rattle.restriction.proofs.same_kind.Reads as reads
 use Rattle.restriction.proofs.+any_alternative+by_kinds+element_choice+element_sequence+group_wildcard+recurse_ordered+restrict+same_kind+sequence_choice.Lts-same_kind as lts
 use Rattle.restriction.proofs.+any_alternative+by_kinds+element_choice+element_sequence+group_wildcard+recurse_ordered+restrict+same_kind+sequence_choice.Proof.Base.{same-kind-at, same-kind-calls}
@@ -14,6 +15,6 @@ same-kind-closed t =
     lts.spec (same-kind-calls t) (same-kind-at t) reads.Post
     (λ c κs. search needs)
     (λ c κs. (omega arith, search needs))
-    (λ c. search range-holds)
-    (λ c. search (range-fails, reason-is rangeReason true))
-    (λ c. search (range-fails, reason-is rangeReason false))
+    (λ c. search (check-holds rangeOk))
+    (λ c. search (check-fails rangeOk, reason-is rangeReason true))
+    (λ c. search (check-fails rangeOk, reason-is rangeReason false))

@@ -1,8 +1,9 @@
 -- `restriction::group_all` meets its contract. Assumes nothing.
 use borrow.Author.Needs.{needs}
 use mathlib.Core.Bool.{true, false}
+use Rattle.particle.specs.Occurs.{rangeOk}
 use Rattle.restriction.specs.Views.{allReason}
-use Rattle.restriction.proofs.Ranges.{range-fails, range-holds, reason-is}
+use Rattle.restriction.proofs.Ranges.{check-fails, check-holds, reason-is}
 use Rattle.restriction.proofs.rows.group_all.Statement.{statement}
 use Rattle.restriction.proofs.rows.group_all.Tie as tie
 
@@ -12,6 +13,6 @@ group-all-spec =
     (tie.spec
     (λ c κs. search needs)
     (λ c κs. search needs)
-    (λ c. search range-holds)
-    (λ c. search (range-fails, reason-is allReason true))
-    (λ c. search (range-fails, reason-is allReason false)))
+    (λ c. search (check-holds rangeOk))
+    (λ c. search (check-fails rangeOk, reason-is allReason true))
+    (λ c. search (check-fails rangeOk, reason-is allReason false)))

@@ -1,0 +1,53 @@
+-- What the cut is on either side of 4294967295. Assumes nothing.
+use mathlib.Core.Bool.{Bool, true, false, cond, _&&_}
+use mathlib.Core.Path.{_≡_, refl, sym, _∙_, ap}
+use Prim.Native.Nat.{ℕ, zero, suc, _≤_, _<_}
+use lib.Dec.{leb}
+use borrow.Author.Tests.{le-leb, lt-leb}
+use Rattle.particle.specs.declared.Occurs.{Occurs}
+use Rattle.totals.specs.declared.ranges.TotalMin.{TotalMin}
+use Rattle.totals.specs.declared.ranges.TotalMin.the-variants.{Exact, TooLarge}
+use Rattle.totals.specs.declared.ranges.TotalMax.{TotalMax}
+use Rattle.totals.specs.declared.ranges.TotalMax.the-variants as most
+use Rattle.totals.specs.declared.ranges.TotalRange.{TotalRange}
+use Rattle.totals.specs.Total.{largest, cutMin, cutBounded, totalMinOk, totalMaxOk, totalOk}
+use Rattle.totals.specs.Cut.{mulCutMin, timesOpen}
+
+pub within : {A : Type 0} (x y : A) (n : ℕ) → n ≤ largest → cond (leb n largest) x y ≡ x
+within x y n l = rw (le-leb n largest l)
+
+pub above : {A : Type 0} (x y : A) (n : ℕ) → largest < n → cond (leb n largest) x y ≡ y
+above x y n l = rw (lt-leb n largest l)
+
+pub min-within : (n : ℕ) → n ≤ largest → cutMin n ≡ Exact n
+min-within n = within (Exact n) TooLarge n
+
+pub min-above : (n : ℕ) → largest < n → cutMin n ≡ TooLarge
+min-above n = above (Exact n) TooLarge n
+
+pub bounded-within : (n : ℕ) → n ≤ largest → cutBounded n ≡ most.Bounded n
+bounded-within n = within (most.Bounded n) most.TooLarge n
+
+pub bounded-above : (n : ℕ) → largest < n → cutBounded n ≡ most.TooLarge
+bounded-above n = above (most.Bounded n) most.TooLarge n
+
+pub times-some : (n : ℕ) (b : TotalMax) → (n ≡ 0 → ⊥) → b ≡ timesOpen n b
+times-some zero b z = absurd (z refl)
+times-some (suc n) b z = refl
+
+pub mul-too-large : {b : TotalMin} (a : ℕ) → b ≡ TooLarge → (a ≡ 0 → ⊥) → TooLarge ≡ mulCutMin a b
+mul-too-large zero e z = absurd (z refl)
+mul-too-large (suc a) e z = rw e
+
+pub min-not-below : {t : TotalMin} (b : ℕ) → t ≡ TooLarge → b ≤ largest → true ≡ totalMinOk t b
+min-not-below b e l = rw e (sym (le-leb b largest l))
+
+pub test-fails : {c : Bool} (t : TotalRange) (b : Occurs) → c ≡ totalMinOk (t .min) (b .min) → c ≡ false → false ≡ totalOk t b
+test-fails t b e f = sym (ap (λ (a : Bool). a && totalMaxOk (t .max) (b .max)) (sym e ∙ f))
+
+pub test-decides : {c r : Bool} (t : TotalRange) (b : Occurs) → c ≡ totalMinOk (t .min) (b .min) → c ≡ true → r ≡ totalMaxOk (t .max) (b .max) → r ≡ totalOk t b
+test-decides t b e f g = g ∙ sym (ap (λ (a : Bool). a && totalMaxOk (t .max) (b .max)) (sym e ∙ f))
+
+-- a range, number by number
+pub same-range : {m n : TotalMin} {a b : TotalMax} → m ≡ n → a ≡ b → _≡_ {A = TotalRange} (record { min = m; max = a }) (record { min = n; max = b })
+same-range e f = λ i. record { min = e i; max = f i }

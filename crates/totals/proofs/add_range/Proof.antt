@@ -1,8 +1,0 @@
--- `totals::add_range` meets its contract: the minimum and the maximum are its callees'. Assumes nothing.
-use borrow.Author.Needs.{needs}
-use Rattle.totals.proofs.Caps.{same-pair}
-use Rattle.totals.proofs.add_range.Statement.{statement}
-use Rattle.totals.proofs.add_range.Tie as tie
-
-pub add-range-spec : {M : Type 1} → statement M
-add-range-spec = tie.close (tie.spec (λ c κs. search needs) (λ c κs. search needs) (λ c. search same-pair))

@@ -1,8 +1,0 @@
--- `totals::mul_range` meets its contract: the minimum and the maximum are its callees'. Assumes nothing.
-use borrow.Author.Needs.{needs}
-use Rattle.totals.proofs.Caps.{same-pair}
-use Rattle.totals.proofs.mul_range.Statement.{statement}
-use Rattle.totals.proofs.mul_range.Tie as tie
-
-pub mul-range-spec : {M : Type 1} → statement M
-mul-range-spec = tie.close (tie.spec (λ c κs. search needs) (λ c κs. search needs) (λ c. search same-pair))

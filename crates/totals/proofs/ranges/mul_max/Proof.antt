@@ -1,0 +1,9 @@
+-- `totals::ranges::mul_max` meets its contract. Assumes nothing.
+use borrow.Author.Needs.{needs}
+use Rattle.totals.proofs.ranges.mul_max.Statement.{statement}
+use Rattle.totals.proofs.ranges.mul_max.Tie as tie
+
+pub mul-max-spec : {M : Type 1} → statement M
+mul-max-spec =
+    tie.close
+    (tie.spec (λ c. search needs) (λ c κs. search needs) (λ c. search needs) (λ c κs. search needs) (λ c. cc) (λ c. search needs))
