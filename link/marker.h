@@ -69,9 +69,13 @@ extern "C" {
 /* What marker_effective_particle answers where no level is present. */
 #define MARKER_NO_CONTENT UINT64_C(0)
 
-/* 2^32, which no minimum, bounded maximum or record count reaches. */
+/* 2^32, which no exact minimum, bounded maximum or record count reaches. */
 #define MARKER_BEYOND UINT64_C(4294967296)  /* added to a refusal's number */
 #define MARKER_UNBOUNDED MARKER_BEYOND      /* an unbounded maximum */
+
+/* 2^33, which MARKER_BEYOND + N does not reach either: a total minimum, or a
+ * bounded total maximum, above 4294967295. */
+#define MARKER_TOO_LARGE UINT64_C(8589934592)
 
 /* Why a sheet fails, in docs/KEY.md's words. The paper sets 140 to 152. */
 enum marker_reason {
@@ -196,18 +200,22 @@ uint32_t marker_mark(const uint8_t *sheet, size_t sheet_len);
 /*
  * The least number of the total range of a tree, as handed in.
  *
- * Returns the minimum, at most 4294967295: a greater one counts as
- * 4294967295. Or MARKER_BEYOND + N where the tree is refused with N, 10 to 14.
+ * Returns the minimum where it is at most 4294967295, and MARKER_TOO_LARGE
+ * where it is above that. Or MARKER_BEYOND + N where the tree is refused with
+ * N, 10 to 14. No two of these are the same number.
  */
 uint64_t marker_total_min(const uint8_t *tree, size_t tree_len);
 
 /*
  * The greatest number of the total range of a tree, as handed in.
  *
- * Returns the maximum where it is bounded, at most 4294967295, and
- * MARKER_UNBOUNDED where it is unbounded: a bounded one above 4294967295
- * counts as unbounded. Or MARKER_BEYOND + N where the tree is refused with N,
- * 10 to 14, the same N as marker_total_min's.
+ * Returns the maximum where it is at most 4294967295, MARKER_TOO_LARGE where it
+ * is bounded and above that, and MARKER_UNBOUNDED where it is unbounded. Or
+ * MARKER_BEYOND + N where the tree is refused with N, 10 to 14, the same N as
+ * marker_total_min's. No two of these are the same number.
+ *
+ * Both are exact: sums and products are formed without limit, zero times
+ * unbounded being 0, and only the result is held against 4294967295.
  */
 uint64_t marker_total_max(const uint8_t *tree, size_t tree_len);
 
@@ -278,7 +286,9 @@ static inline uint32_t marker_mark_refusal(uint32_t mark)
  * marker_effective_particle. */
 static inline uint32_t marker_number_refusal(uint64_t number)
 {
-    return number > MARKER_BEYOND ? (uint32_t)(number - MARKER_BEYOND) : 0;
+    return number > MARKER_BEYOND && number < MARKER_TOO_LARGE
+        ? (uint32_t)(number - MARKER_BEYOND)
+        : 0;
 }
 
 /* The same for marker_emptiable. */

@@ -60,6 +60,9 @@ const REFUSED: u32 = 1000;
 // refusal.
 const BEYOND: u64 = 1 << 32;
 
+// 2^33: a total minimum or maximum that is too large.
+const TOO_LARGE: u64 = 1 << 33;
+
 /// The mark of a sheet. It displays as the line that the marking program
 /// prints.
 #[derive(Debug, Clone, Copy, PartialEq, Eq, Hash)]
@@ -186,20 +189,31 @@ numbers! {
     16 LIMIT "the examiner's mistake: joined tree over 255 records or depth 12"
 }
 
-/// A total range: its least and its greatest number.
+/// A total range: its least and its greatest number. Both are exact: sums and
+/// products are formed without limit, zero times unbounded being 0, and only the
+/// result is held against 4294967295.
 #[derive(Debug, Clone, Copy, PartialEq, Eq, Hash)]
 pub struct Range {
-    /// A minimum above 4294967295 counts as 4294967295.
-    pub min: u32,
-    /// A bounded maximum above 4294967295 counts as unbounded.
+    pub min: Minimum,
     pub max: Maximum,
 }
 
-/// The greatest number of a range.
+/// The least number of a total range.
+#[derive(Debug, Clone, Copy, PartialEq, Eq, Hash)]
+pub enum Minimum {
+    /// This number.
+    Exact(u32),
+    /// A number above 4294967295.
+    TooLarge,
+}
+
+/// The greatest number of a total range.
 #[derive(Debug, Clone, Copy, PartialEq, Eq, Hash)]
 pub enum Maximum {
     /// This number.
     Bounded(u32),
+    /// A number above 4294967295.
+    TooLarge,
     /// There is none.
     Unbounded,
 }
@@ -222,12 +236,18 @@ pub fn total_range(tree: &[u8]) -> Result<Range, Refusal> {
     let min = unsafe { marker_total_min(tree.as_ptr(), tree.len()) };
     // SAFETY: as above.
     let max = unsafe { marker_total_max(tree.as_ptr(), tree.len()) };
-    let max = match u32::try_from(unless_refused(max)?) {
-        Ok(number) => Maximum::Bounded(number),
-        Err(_) => Maximum::Unbounded,
+    let min = match unless_refused(min)? {
+        TOO_LARGE => Minimum::TooLarge,
+        // Every other minimum is below 2^32.
+        number => Minimum::Exact(number as u32),
     };
-    // A minimum is below 2^32.
-    Ok(Range { min: unless_refused(min)? as u32, max })
+    let max = match unless_refused(max)? {
+        TOO_LARGE => Maximum::TooLarge,
+        BEYOND => Maximum::Unbounded,
+        // Every other maximum is below 2^32.
+        number => Maximum::Bounded(number as u32),
+    };
+    Ok(Range { min, max })
 }
 
 /// Whether a tree, as handed in, is emptiable; refused with 10 to 14.
@@ -302,8 +322,8 @@ pub fn item(tree: &[u8], k: usize) -> Option<&[u8]> {
 // The number, unless it stands for a tree's or chain's refusal.
 fn unless_refused(number: u64) -> Result<u64, Refusal> {
     match number.checked_sub(BEYOND) {
-        None | Some(0) => Ok(number),
         // Refusals are 1 to 16.
-        Some(refusal) => Err(Refusal(refusal as u32)),
+        Some(refusal @ 1..) if number != TOO_LARGE => Err(Refusal(refusal as u32)),
+        _ => Ok(number),
     }
 }

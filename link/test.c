@@ -173,7 +173,11 @@ static void test_totals(void)
     record(record(tree, SEQUENCE, 0, 1, 65535, 65535), ELEMENT, 0, 0, 65537, 65537);
     check_total("the greatest numbers", tree, sizeof tree, 4294967295u, 4294967295u);
     record(record(tree, SEQUENCE, 0, 1, 65536, 65536), ELEMENT, 0, 0, 65536, 65536);
-    check_total("numbers too large", tree, sizeof tree, 4294967295u, MARKER_UNBOUNDED);
+    check_total("numbers too large", tree, sizeof tree, MARKER_TOO_LARGE, MARKER_TOO_LARGE);
+    record(record(tree, SEQUENCE, 0, 1, 0, 65536), ELEMENT, 0, 0, 65536, 65536);
+    check_total("a maximum too large", tree, sizeof tree, 0, MARKER_TOO_LARGE);
+    record(record(tree, SEQUENCE, 0, 1, 65536, STAR), ELEMENT, 0, 0, 65536, 65536);
+    check_total("a minimum too large", tree, sizeof tree, MARKER_TOO_LARGE, MARKER_UNBOUNDED);
     record(record(tree, SEQUENCE, 0, 1, 2, 3), ELEMENT, 0, 0, 1, STAR);
     check_total("S(2,3)[a(1,*)]", tree, sizeof tree, 2, MARKER_UNBOUNDED);
     record(record(tree, CHOICE, 0, 1, 2, 3), WILDCARD, 63, 0, 0, 4);
@@ -293,6 +297,7 @@ static void test_helpers(void)
     check("no refusal of a mark", 0, marker_mark_refusal(MARKER_MOST_SET));
     check("refusal 14", 14, marker_number_refusal(marker_total_max(NULL, 0)));
     check("unbounded is no refusal", 0, marker_number_refusal(MARKER_UNBOUNDED));
+    check("too large is no refusal", 0, marker_number_refusal(MARKER_TOO_LARGE));
     check("emptiable is no refusal", 0, marker_emptiable_refusal(MARKER_EMPTIABLE));
     check("refusal 14 of emptiable", 14, marker_emptiable_refusal(marker_emptiable(NULL, 0)));
 }

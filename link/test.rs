@@ -4,9 +4,9 @@
 mod marker;
 mod test_chains;
 
-use marker::{
-    copy_item, emptiable, item, mark, tidy, total_range, Mark, Maximum, Range, Reason, Refusal,
-};
+use marker::Maximum::{self, Bounded, Unbounded};
+use marker::Minimum::{self, Exact};
+use marker::{copy_item, emptiable, item, mark, tidy, total_range, Mark, Range, Reason, Refusal};
 use marker::{MOST_SHEET, MOST_TREE, RECORD};
 
 const ELEMENT: u8 = 0;
@@ -168,29 +168,30 @@ fn refused_trees_alone() {
 }
 
 /// A (min, max) sequence of one element.
-fn one_element(pair: (u32, u32), of: (u32, Option<u32>)) -> Vec<u8> {
-    let group = record(SEQUENCE, 0, 1, pair.0, Some(pair.1));
+fn one_element(pair: (u32, Option<u32>), of: (u32, Option<u32>)) -> Vec<u8> {
+    let group = record(SEQUENCE, 0, 1, pair.0, pair.1);
     [group, record(ELEMENT, 0, 0, of.0, of.1)].concat()
 }
 
 #[test]
 fn totals() {
-    let greatest = one_element((65535, 65535), (65537, Some(65537)));
-    let range = Range { min: u32::MAX, max: Maximum::Bounded(u32::MAX) };
-    assert_eq!(total_range(&greatest), Ok(range));
-    let too_large = one_element((65536, 65536), (65536, Some(65536)));
-    let range = Range { min: u32::MAX, max: Maximum::Unbounded };
-    assert_eq!(total_range(&too_large), Ok(range));
-    let range = Range { min: 2, max: Maximum::Unbounded };
-    assert_eq!(total_range(&one_element((2, 3), (1, None))), Ok(range));
-    let range = Range { min: 0, max: Maximum::Bounded(12) };
-    assert_eq!(total_range(&one_element((2, 3), (0, Some(4)))), Ok(range));
+    let ranges = [
+        ((65535, Some(65535)), (65537, Some(65537)), Exact(u32::MAX), Bounded(u32::MAX)),
+        ((65536, Some(65536)), (65536, Some(65536)), Minimum::TooLarge, Maximum::TooLarge),
+        ((0, Some(65536)), (65536, Some(65536)), Exact(0), Maximum::TooLarge),
+        ((65536, None), (65536, Some(65536)), Minimum::TooLarge, Unbounded),
+        ((2, Some(3)), (1, None), Exact(2), Unbounded),
+        ((2, Some(3)), (0, Some(4)), Exact(0), Bounded(12)),
+    ];
+    for (pair, of, min, max) in ranges {
+        assert_eq!(total_range(&one_element(pair, of)), Ok(Range { min, max }));
+    }
 }
 
 #[test]
 fn emptiness() {
-    assert_eq!(emptiable(&one_element((2, 3), (0, Some(1)))), Ok(true));
-    assert_eq!(emptiable(&one_element((2, 3), (1, Some(1)))), Ok(false));
+    assert_eq!(emptiable(&one_element((2, Some(3)), (0, Some(1)))), Ok(true));
+    assert_eq!(emptiable(&one_element((2, Some(3)), (1, Some(1)))), Ok(false));
 }
 
 /// Bytes each of which has a value of its own.
