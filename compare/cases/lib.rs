@@ -3,6 +3,7 @@
 
 pub mod known_chains;
 pub mod known_sheets;
+pub mod known_totals;
 pub mod known_trees;
 pub mod limits;
 pub mod small_chains;

@@ -5,6 +5,9 @@
 /// number in place of a total or a count.
 pub const BEYOND: u64 = 1 << 32;
 
+/// What a total's minimum or maximum is where it is too large.
+pub const TOO_LARGE: u64 = 1 << 33;
+
 /// What is added to the number of a sheet's refusal.
 pub const REFUSED: u32 = 1000;
 
@@ -34,4 +37,30 @@ pub fn text(answer: u32) -> String {
         1001..=1014 => format!("refused {}", answer - REFUSED),
         _ => format!("{answer}, which is no answer"),
     }
+}
+
+/// The words for the minimum or the maximum of a total range, or for the
+/// refusal in its place.
+pub fn total_text(answer: u64) -> String {
+    match answer {
+        BEYOND => "unbounded".into(),
+        TOO_LARGE => "too large".into(),
+        _ if answer > BEYOND => format!("refused {}", answer - BEYOND),
+        _ => answer.to_string(),
+    }
+}
+
+/// The words for a total range, as `4294967295, unbounded`.
+pub fn range_text((min, max): (u64, u64)) -> String {
+    match (total_text(min), total_text(max)) {
+        (refused, _) if refused.starts_with("refused") => refused,
+        (min, max) => format!("{min}, {max}"),
+    }
+}
+
+/// The total range that the original answers in place of this one: it has no
+/// 'too large', which stands for its minimum of 4294967295 and for a missing
+/// maximum.
+pub fn with_caps((min, max): (u64, u64)) -> (u64, u64) {
+    (if min == TOO_LARGE { BEYOND - 1 } else { min }, if max == TOO_LARGE { BEYOND } else { max })
 }

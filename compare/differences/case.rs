@@ -15,6 +15,9 @@ pub struct Case {
     pub subject: Subject,
     /// The mark, the total range or the refusal, as `fails 122`.
     pub stated: String,
+    /// What the document states of the Rust on a tree or a chain, where that
+    /// differs.
+    pub rust: Option<String>,
     /// The W3C text's answer, `valid` or `fails`, or its total range.
     pub w3c: Option<String>,
 }
@@ -24,8 +27,7 @@ pub enum Subject {
     Tree(Tree),
     /// A tree alone that the notation does not have.
     Bytes(Vec<u8>),
-    /// A chain, and what the document states of the Rust on it, which differs.
-    Chain(Chain, String),
+    Chain(Chain),
 }
 
 /// Two trees as they are written, with the statements beside them.
@@ -112,7 +114,7 @@ impl fmt::Display for Subject {
             }
             Subject::Tree(tree) => write!(f, "{tree}"),
             Subject::Bytes(bytes) => write!(f, "a tree of {} bytes", bytes.len()),
-            Subject::Chain(chain, _) => write!(f, "a chain of {} levels", chain.len()),
+            Subject::Chain(chain) => write!(f, "a chain of {} levels", chain.len()),
         }
     }
 }

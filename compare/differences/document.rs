@@ -97,7 +97,8 @@ fn in_words(number: u32, cell: &str) -> Option<Case> {
         (Tree::group(Kind::Sequence, (1, Some(1)), items).encode(), rest)
     };
     let (stated, _) = mark(rest)?;
-    Some(Case { number: Some(number), subject: Subject::Bytes(bytes), stated, w3c: None })
+    let subject = Subject::Bytes(bytes);
+    Some(Case { number: Some(number), subject, stated, rust: None, w3c: None })
 }
 
 /// A chain whose first level is the element a and the others absent, with the
@@ -105,10 +106,10 @@ fn in_words(number: u32, cell: &str) -> Option<Case> {
 fn of_chain(number: u32, cell: &str) -> Option<Case> {
     let (levels, rest) = cell.strip_prefix(CHAIN.0)?.split_once(CHAIN.1)?;
     let (stated, rest) = mark(rest)?;
-    let rust = rest.strip_prefix(RUST)?.to_string();
+    let rust = Some(rest.strip_prefix(RUST)?.to_string());
     let mut chain = vec![None; levels.parse().ok()?];
     *chain.first_mut()? = Some(Tree::leaf(Kind::Element, 0, (1, Some(1))));
-    Some(Case { number: Some(number), subject: Subject::Chain(chain, rust), stated, w3c: None })
+    Some(Case { number: Some(number), subject: Subject::Chain(chain), stated, rust, w3c: None })
 }
 
 /// The cases of a text: a row's last cell, or another text without a number.
@@ -137,8 +138,9 @@ fn cases(number: Option<u32>, text: &str) -> Result<Vec<Case>, String> {
             _ => mark(after),
         };
         let (stated, rest) = claim.ok_or(format!("nothing is stated of {subject}"))?;
+        let rust = rest.strip_prefix(RUST).and_then(range).map(|(range, _)| range);
         let w3c = w3c(rest, &subject)?;
-        cases.push(Case { number, subject, stated, w3c });
+        cases.push(Case { number, subject, stated, rust, w3c });
     }
     Ok(cases)
 }
@@ -169,13 +171,17 @@ fn mark(text: &str) -> Option<(String, &str)> {
     (digits > 0).then(|| (text[..word.len() + digits].to_string(), &text[word.len() + digits..]))
 }
 
-/// The total range that a text begins with, and what follows it.
+/// The total range that stands after a colon, and what follows it.
 fn total(text: &str) -> Option<(String, &str)> {
-    let text = text.strip_prefix(':')?.trim_start();
+    range(text.strip_prefix(':')?.trim_start())
+}
+
+/// The total range that a text begins with, and what follows it.
+fn range(text: &str) -> Option<(String, &str)> {
     let end = text.find(&[';', '(', '.'][..]).unwrap_or(text.len());
     let (min, max) = text[..end].trim_end().split_once(", ")?;
-    let number = |text: &str| text.parse::<u64>().is_ok();
-    (number(min) && (max == "unbounded" || number(max)))
+    let known = |text: &str| text == "too large" || text.parse::<u64>().is_ok();
+    (known(min) && (max == "unbounded" || known(max)))
         .then(|| (format!("{min}, {max}"), &text[end..]))
 }
 

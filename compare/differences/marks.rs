@@ -1,7 +1,7 @@
 //! What the document states of a case, held to the Rust, to the library and to
 //! our reading of the W3C text.
 
-use common::answers::{self, BEYOND};
+use common::answers::{self, BEYOND, range_text};
 use common::chain;
 use common::tree::{MOST_RECORDS, RECORD, Tree};
 use oracle::bridge;
@@ -22,14 +22,15 @@ pub fn wrong(case: &Case) -> Vec<String> {
         }
     };
     let answers = answers(&case.subject);
-    let refused = answers.original.starts_with("refused");
-    hold(if refused { "the second reading" } else { "the Rust" }, &answers.original, &case.stated);
+    hold(answers.by, &answers.expected, &case.stated);
     hold("the library", &answers.library, &case.stated);
+    if let Some(rust) = &answers.rust {
+        hold("the Rust", rust, case.rust.as_ref().unwrap_or(&case.stated));
+    }
     if let Some(stated) = &case.w3c {
         hold("our reading of the W3C text", &answers.w3c, stated);
     }
-    if let Subject::Chain(chain, stated) = &case.subject {
-        hold("the Rust", &joined(chain), stated);
+    if let Subject::Chain(chain) = &case.subject {
         wrong.extend(smaller(&chain[..chain.len() - 1]));
     }
     let number = case.number.filter(|number| BY_RULES.contains(number));
@@ -50,13 +51,18 @@ pub fn different(case: &Case) -> Option<&Paper> {
     (w3c != search::rust(&paper.sheet)).then_some(paper)
 }
 
-/// The Rust's answer (the second reading's where it is a refusal), the
-/// library's, and our reading's.
 struct Answers {
-    original: String,
+    /// What the library must answer, and by whom: the Rust, or the second
+    /// reading where that is a total range or a refusal.
+    expected: String,
+    by: &'static str,
     library: String,
+    /// The Rust's own answer, where it has one that may be another.
+    rust: Option<String>,
     w3c: String,
 }
+
+const SECOND: &str = "the second reading";
 
 fn answers(subject: &Subject) -> Answers {
     match subject {
@@ -67,7 +73,7 @@ fn answers(subject: &Subject) -> Answers {
             Answers { w3c: format!("{min}, {max}"), ..of_bytes(&tree.encode()) }
         }
         Subject::Bytes(bytes) => of_bytes(bytes),
-        Subject::Chain(chain, _) => of_chain(chain),
+        Subject::Chain(chain) => of_chain(chain),
     }
 }
 
@@ -79,30 +85,29 @@ fn of_paper(paper: &Paper) -> Answers {
         Some(Answer::Undecided) => "is undecided",
         None => "hangs on the order",
     };
+    let expected = answers::text(expected::sheet::mark(&bytes));
     Answers {
-        original: answers::text(expected::sheet::mark(&bytes)),
+        by: if expected.starts_with("refused") { SECOND } else { "the Rust" },
+        expected,
         library: answers::text(library::mark(&bytes)),
+        rust: None,
         w3c: w3c.into(),
     }
 }
 
 /// The total range of a tree alone, or its refusal.
 fn of_bytes(bytes: &[u8]) -> Answers {
-    let text = |min: u64, max: u64| match (min, max) {
-        (refused, _) if refused >= BEYOND => format!("refused {}", refused - BEYOND),
-        (min, BEYOND) => format!("{min}, unbounded"),
-        (min, max) => format!("{min}, {max}"),
-    };
-    let original = expected::tree::answers(bytes);
+    let expected = expected::tree::answers(bytes);
     Answers {
-        original: text(original.total_min, original.total_max),
-        library: text(library::total_min(bytes), library::total_max(bytes)),
+        expected: range_text(expected.total),
+        by: SECOND,
+        library: range_text((library::total_min(bytes), library::total_max(bytes))),
+        rust: expected.rust_total.map(range_text),
         w3c: "has no answer".into(),
     }
 }
 
-/// The answers on a chain; the original is the second reading where it is
-/// refused.
+/// The answers on a chain.
 fn of_chain(chain: &[Option<Tree>]) -> Answers {
     let bytes = chain::encode(chain);
     let text = |answer: u64, written: &[u8]| match answer.checked_sub(BEYOND) {
@@ -115,8 +120,10 @@ fn of_chain(chain: &[Option<Tree>]) -> Answers {
     let (answer, written) = expected.joined_into(out.len());
     let got = library::effective_particle(&bytes, &mut out);
     Answers {
-        original: text(answer, written),
+        expected: text(answer, written),
+        by: SECOND,
         library: text(got, &out[..RECORD * (got as usize).min(MOST_RECORDS)]),
+        rust: Some(joined(chain)),
         w3c: "has no answer".into(),
     }
 }

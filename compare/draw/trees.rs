@@ -7,7 +7,7 @@ use common::tree::{Kind, MOST_DEPTH, MOST_RECORDS, Pair, Tree};
 const EDGES: [u32; 8] = [0, 1, 2, 65535, 65536, 65537, 4294967294, 4294967295];
 
 /// How one tree's pairs are drawn. With edges everywhere nearly every total is
-/// 0, capped or unbounded, so most trees have an edge in so many pairs only.
+/// 0, too large or unbounded, so most trees have an edge in so many pairs only.
 #[derive(Clone, Copy)]
 enum Pairs {
     Edges,

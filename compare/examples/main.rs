@@ -1,15 +1,18 @@
-//! Prints document 01's examples with what the oracle says of them, then the
-//! cases by which doubtful places of document 01 were settled. Exit status 1
-//! where the oracle says something else than is stated beside the example.
+//! Prints document 01's examples with what the oracle says of them, totals as
+//! document 02 §2 has them, then the cases by which doubtful places of document
+//! 01 were settled. Exit status 1 where the oracle, or of a total the second
+//! reading, says something else than is stated beside the example.
 
 use cases::stated::{self, EXAMPLES, Marked, SETTLED};
+use common::answers::{BEYOND, range_text};
 use common::notation::parse;
 use oracle::bridge::{self, Leaves};
 use oracle::doors;
 
-const TOTALS: [(&str, &str); 2] = [
-    ("S(65535,65535)[a(65537,65537)]", "4294967295, 4294967295"),
-    ("S(65536,65536)[a(65536,65536)]", "4294967295, unbounded"),
+/// A tree, its total range, and the original's.
+const TOTALS: [(&str, &str, &str); 2] = [
+    ("S(65535,65535)[a(65537,65537)]", "4294967295, 4294967295", "4294967295, 4294967295"),
+    ("S(65536,65536)[a(65536,65536)]", "too large, too large", "4294967295, unbounded"),
 ];
 
 const TIDIED: [(&str, &str); 1] = [("S(2,3)[C[a,b]]", "C(2,3)[a,b]")];
@@ -53,11 +56,14 @@ fn marks(examples: &[Marked], wrong: &mut u32) {
     }
 }
 
-fn totals(examples: &[(&str, &str)], wrong: &mut u32) {
-    for (text, stated) in examples {
-        let (min, max) = doors::effective_total_range(&Leaves::none().particle(&parse(text)));
-        let max = max.map_or("unbounded".into(), |m| m.to_string());
-        show(format!("total of {text}"), format!("{min}, {max}"), stated, wrong);
+fn totals(examples: &[(&str, &str, &str)], wrong: &mut u32) {
+    for (text, stated, original) in examples {
+        let tree = parse(text);
+        let got = range_text(second::total::total(&tree));
+        show(format!("total of {text}"), got, stated, wrong);
+        let (min, max) = doors::effective_total_range(&Leaves::none().particle(&tree));
+        let got = range_text((min.into(), max.map_or(BEYOND, u64::from)));
+        show(format!("total of {text}, the original's"), got, original, wrong);
     }
 }
 

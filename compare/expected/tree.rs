@@ -1,6 +1,7 @@
 //! What the entries for one tree must answer on a byte string. The Rust has no
-//! refusals and no item bytes: refusals are the second reading's, items the
-//! records of the decoded tree.
+//! refusals, no 'too large' and no item bytes: refusals and total ranges are
+//! the second reading's, items the records of the decoded tree. The Rust's own
+//! total range is here beside it.
 
 use common::answers::BEYOND;
 use common::tree::{RECORD, Tree};
@@ -8,8 +9,11 @@ use oracle::bridge::{self, Leaves};
 use oracle::doors;
 
 pub struct Answers {
-    pub total_min: u64,
-    pub total_max: u64,
+    /// The minimum and the maximum.
+    pub total: (u64, u64),
+    /// What the Rust answers for it, which has to be the same with the caps;
+    /// nothing where the tree is refused.
+    pub rust_total: Option<(u64, u64)>,
     pub emptiable: u32,
     /// The root's items, each as its run of records.
     pub items: Vec<Vec<u8>>,
@@ -27,8 +31,8 @@ pub fn answers(bytes: &[u8]) -> Answers {
 fn refused(number: u32) -> Answers {
     let beyond = BEYOND + u64::from(number);
     Answers {
-        total_min: beyond,
-        total_max: beyond,
+        total: (beyond, beyond),
+        rust_total: None,
         emptiable: number,
         items: Vec::new(),
         tidied: Err(number),
@@ -41,8 +45,8 @@ fn accepted(bytes: &[u8]) -> Answers {
     let particle = Leaves::none().particle(&tree);
     let (min, max) = doors::effective_total_range(&particle);
     Answers {
-        total_min: min.into(),
-        total_max: max.map_or(BEYOND, u64::from),
+        total: second::total::total(&tree),
+        rust_total: Some((min.into(), max.map_or(BEYOND, u64::from))),
         emptiable: doors::emptiable(&particle).into(),
         items: tree.items.iter().map(Tree::encode).collect(),
         tidied: Ok(bridge::tree(&doors::normalize(&particle)).encode()),

@@ -11,6 +11,9 @@ use second::tree::first_refusal;
 
 use crate::case::{Case, Operation};
 
+/// The greatest exact minimum and bounded maximum.
+const TOP: u64 = BEYOND - 1;
+
 /// The kind of an answer.
 pub fn of(case: &Case) -> String {
     match case.operation {
@@ -32,13 +35,9 @@ pub fn of(case: &Case) -> String {
 }
 
 fn total(case: &Case) -> String {
-    const MOST: u64 = BEYOND - 1;
     match case.answer {
-        0 => "0".into(),
-        MOST => MOST.to_string(),
-        BEYOND => "unbounded".into(),
-        answer if answer > BEYOND => format!("refused {}", answer - BEYOND),
-        _ => "between".into(),
+        1..TOP => "between".into(),
+        answer => answers::total_text(answer),
     }
 }
 

@@ -1,8 +1,10 @@
-//! The trees alone among the stored answers: known byte strings, a tree of 255
-//! records, random and damaged ones, with what the entries must answer on them
-//! (expected/tree.rs).
+//! The trees alone among the stored answers: known byte strings, trees about the
+//! cut of totals, a tree of 255 records, random and damaged ones, with what the
+//! entries must answer on them (expected/tree.rs).
 
-use cases::known_trees;
+use cases::{known_totals, known_trees};
+use common::answers::with_caps;
+use common::notation::parse;
 use common::random::Rng;
 use common::sheet::Leaf;
 use common::tree::{MOST_RECORDS, Tree};
@@ -26,7 +28,9 @@ const REFUSED_SHARE: usize = 15;
 pub fn store(stored: &mut Stored, seed: u64) {
     let mut rng = Rng::new(seed, u64::MAX);
     let most = trees::usual_tree_of(&mut rng, MOST_RECORDS).encode();
-    let known: Vec<Vec<u8>> = known_trees::known().into_iter().map(|(_, bytes, _)| bytes).collect();
+    let known = known_trees::known().into_iter().map(|(_, bytes, _)| bytes);
+    let totals = known_totals::known().into_iter().map(|(text, _)| parse(&text).encode());
+    let known: Vec<Vec<u8>> = known.chain(totals).collect();
     for bytes in known.iter().filter(|bytes| bytes.len() <= SHORT).chain([&most]) {
         for case in answers(&mut rng, bytes) {
             stored.add(case);
@@ -45,8 +49,8 @@ pub fn store(stored: &mut Stored, seed: u64) {
 /// So many of each kind of answer on an accepted tree, and of refusal 2.
 fn accepted() -> Shares {
     let kinds: [(Operation, &[&str]); 5] = [
-        (Operation::TotalMin, &["0", "4294967295", "between"]),
-        (Operation::TotalMax, &["0", "4294967295", "between", "unbounded"]),
+        (Operation::TotalMin, &["0", "4294967295", "too large", "between"]),
+        (Operation::TotalMax, &["0", "4294967295", "too large", "between", "unbounded"]),
         (Operation::Emptiable, &["no", "yes"]),
         (Operation::Tidy, &["changed", "unchanged", "refused 2"]),
         (Operation::Item, &["written", "too long", "none"]),
@@ -86,9 +90,12 @@ fn random_tree(rng: &mut Rng) -> Tree {
 /// What every operation must answer on one byte string.
 fn answers(rng: &mut Rng, bytes: &[u8]) -> Vec<Case> {
     let answers = expected::tree::answers(bytes);
+    if let Some(rust) = answers.rust_total {
+        assert!(with_caps(answers.total) == rust, "another total than the Rust's");
+    }
     vec![
-        Case::number(Operation::TotalMin, bytes, answers.total_min),
-        Case::number(Operation::TotalMax, bytes, answers.total_max),
+        Case::number(Operation::TotalMin, bytes, answers.total.0),
+        Case::number(Operation::TotalMax, bytes, answers.total.1),
         Case::number(Operation::Emptiable, bytes, answers.emptiable.into()),
         tidied(rng, bytes, &answers),
         item(rng, bytes, &answers),

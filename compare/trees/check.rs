@@ -1,7 +1,7 @@
 //! One byte string through every entry of the library, and the first answer
 //! that is not the expected one (expected/tree.rs).
 
-use common::answers::BEYOND;
+use common::answers::{self, BEYOND};
 use common::random::Rng;
 use expected::tree::Answers;
 
@@ -18,9 +18,7 @@ pub fn answers(bytes: &[u8], rng: &mut Rng, tally: &mut Tally) -> Result<(), Dif
     let expected = expected::tree::answers(bytes);
     tally.string(bytes, &expected);
     let lent = bytes.to_vec();
-    let (min, max) = (library::total_min(&lent), library::total_max(&lent));
-    same("total minimum", expected.total_min, min, total_text)?;
-    same("total maximum", expected.total_max, max, total_text)?;
+    totals(&lent, &expected)?;
     let emptiable = library::emptiable(&lent);
     same("emptiable", expected.emptiable, emptiable, emptiable_text)?;
     tally.totals += 1;
@@ -37,6 +35,20 @@ pub fn answers(bytes: &[u8], rng: &mut Rng, tally: &mut Tally) -> Result<(), Dif
             expected: "unchanged".into(),
             got: "changed by one of the calls".into(),
         });
+    }
+    Ok(())
+}
+
+/// Compares the total range with the second reading's, and with the Rust's.
+fn totals(tree: &[u8], expected: &Answers) -> Result<(), Difference> {
+    let text = |answer: u64| format!("{answer} ({})", answers::total_text(answer));
+    let (min, max) = (library::total_min(tree), library::total_max(tree));
+    same("total minimum", expected.total.0, min, text)?;
+    same("total maximum", expected.total.1, max, text)?;
+    if let Some(rust) = expected.rust_total {
+        let (min, max) = answers::with_caps((min, max));
+        same("total minimum with the cap, and the Rust's", rust.0, min, text)?;
+        same("total maximum with the cap, and the Rust's", rust.1, max, text)?;
     }
     Ok(())
 }
@@ -77,14 +89,6 @@ fn same<T: PartialEq + Copy>(
         return Ok(());
     }
     Err(Difference { what: what.into(), expected: text(expected), got: text(got) })
-}
-
-fn total_text(answer: u64) -> String {
-    match answer.checked_sub(BEYOND) {
-        None => answer.to_string(),
-        Some(0) => format!("{answer} (unbounded)"),
-        Some(number) => format!("{answer} (refused {number})"),
-    }
 }
 
 fn emptiable_text(answer: u32) -> String {

@@ -6,7 +6,9 @@
 mod check;
 mod tally;
 
-use cases::{known_trees, small_trees};
+use cases::{known_totals, known_trees, small_trees};
+use common::answers;
+use common::notation::parse;
 use common::options::{self, Options};
 use common::random::Rng;
 use common::tree::{RECORD, Tree};
@@ -27,12 +29,13 @@ fn main() {
     let options = options::read("trees", 200_000, 150_000);
     let mut tally = Tally::default();
     // Short runs first, so that a difference shows on a small case if it can.
-    for run in [known, small, random, damaged] {
+    for run in [known, totals, small, random, damaged] {
         if let Err(found) = run(&options, &mut tally) {
             report(&found);
             std::process::exit(1);
         }
     }
+    assert!(tally.covers_totals(), "an edge of the total range never came up: {tally}");
     println!("{tally}");
 }
 
@@ -54,6 +57,21 @@ fn known(options: &Options, tally: &mut Tally) -> Result<(), Found> {
         tally.known += 1;
         check::answers(&bytes, &mut rng, tally)
             .map_err(found(format!("known string '{what}'"), &bytes))?;
+    }
+    Ok(())
+}
+
+/// The trees about the cut, whose total ranges are written by hand.
+fn totals(options: &Options, tally: &mut Tally) -> Result<(), Found> {
+    let mut rng = Rng::new(options.seed, 2);
+    for (text, stated) in known_totals::known() {
+        let bytes = parse(&text).encode();
+        accepted(&bytes);
+        let read = answers::range_text(second::total::total(&Tree::decode(&bytes)));
+        assert!(read == stated, "{text}: the second reading says {read}, stated is {stated}");
+        tally.known += 1;
+        check::answers(&bytes, &mut rng, tally)
+            .map_err(found(format!("total of {text}"), &bytes))?;
     }
     Ok(())
 }

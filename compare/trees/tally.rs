@@ -2,7 +2,7 @@
 
 use std::fmt;
 
-use common::answers::BEYOND;
+use common::answers::{BEYOND, TOO_LARGE};
 use common::tree::{COUNT, KIND, RECORD};
 use expected::tree::Answers;
 
@@ -18,8 +18,9 @@ pub struct Tally {
     /// Records of accepted trees by kind, and empty groups among them.
     records: [u64; 5],
     empty_groups: u64,
-    /// Totals: minimum 0, minimum 4294967295, maximum 0, maximum unbounded.
-    edges: [u64; 4],
+    /// Totals: minimum 0, 4294967295, too large; maximum 0, 4294967295, too
+    /// large, unbounded.
+    edges: [u64; 7],
     pub totals: u64,
     pub emptiable: u64,
     pub items: u64,
@@ -35,21 +36,28 @@ impl Tally {
     pub fn string(&mut self, bytes: &[u8], expected: &Answers) {
         match expected.tidied {
             Err(number) => self.refused[number as usize - 10] += 1,
-            Ok(_) => self.accept(bytes, expected.total_min, expected.total_max),
+            Ok(_) => self.accept(bytes, expected.total),
         }
     }
 
-    fn accept(&mut self, bytes: &[u8], min: u64, max: u64) {
+    fn accept(&mut self, bytes: &[u8], (min, max): (u64, u64)) {
         self.accepted += 1;
         for record in bytes.chunks_exact(RECORD) {
             let kind = usize::from(record[KIND]);
             self.records[kind] += 1;
             self.empty_groups += u64::from(kind > 1 && record[COUNT] == 0);
         }
-        let edges = [min == 0, min == BEYOND - 1, max == 0, max == BEYOND];
-        for (count, edge) in self.edges.iter_mut().zip(edges) {
+        const MOST: u64 = BEYOND - 1;
+        let minima = [0, MOST, TOO_LARGE].map(|edge| min == edge);
+        let maxima = [0, MOST, TOO_LARGE, BEYOND].map(|edge| max == edge);
+        for (count, edge) in self.edges.iter_mut().zip(minima.into_iter().chain(maxima)) {
             *count += u64::from(edge);
         }
+    }
+
+    /// Each edge of a total range came up.
+    pub fn covers_totals(&self) -> bool {
+        self.edges.iter().all(|count| *count > 0)
     }
 }
 
@@ -57,15 +65,16 @@ impl fmt::Display for Tally {
     fn fmt(&self, f: &mut fmt::Formatter<'_>) -> fmt::Result {
         let [e, w, s, c, a] = self.records;
         let [r10, r11, r12, r13, r14] = self.refused;
-        let [min0, min_top, max0, unbounded] = self.edges;
+        let [min0, min_top, min_over, max0, max_top, max_over, unbounded] = self.edges;
         write!(
             f,
             "all equal: {} small trees, {} random trees, {} known strings, {} damaged strings; \
              {} accepted (records: {e} elements, {w} wildcards, {s} sequences, {c} choices, \
              {a} all-groups, {} of these groups empty), \
              refused 10: {r10}, 11: {r11}, 12: {r12}, 13: {r13}, 14: {r14}; \
-             {} total ranges (minimum 0: {min0}, 4294967295: {min_top}; \
-             maximum 0: {max0}, unbounded: {unbounded}), {} emptiable, \
+             {} total ranges (minimum 0: {min0}, 4294967295: {min_top}, too large: {min_over}; \
+             maximum 0: {max0}, 4294967295: {max_top}, too large: {max_over}, \
+             unbounded: {unbounded}), {} emptiable, \
              {} items and {} places without item in {} buffers, \
              tidied into {} buffers",
             self.small,
