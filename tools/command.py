@@ -1,10 +1,11 @@
-"""The command `tools/paper`: its four uses, what each reads and prints."""
+"""The command `tools/paper`: its five uses, what each reads and prints."""
 
 import argparse
 import os
 import sys
 
 import chain
+import describer
 import draft
 import joiner
 import layout
@@ -14,6 +15,7 @@ import refusals
 from faults import PaperError
 from notation import tree_text
 from proved import NoAnswer
+from total import total as total_here
 from usage import DESCRIPTION, EPILOG
 
 FINE, WRONG, UNUSABLE = 0, 1, 2
@@ -53,6 +55,7 @@ def arguments():
         ("read", read, "a sheet becomes a paper as text, with its mark in words"),
         ("mark", mark, "a paper as text gets its mark in words"),
         ("join", join, "a chain of trees, alone or as a paper's base, becomes one tree"),
+        ("total", total, "a tree or chain, or both trees of a paper, get total range and emptiness"),
     ):
         sub = uses.add_parser(name, help=text, description=text)
         sub.add_argument("file", metavar="FILE", nargs="?", default=STANDARD,
@@ -101,6 +104,32 @@ def join(options):
     else:
         put_bytes(layout.encode_tree(tree), options.output, "tree")
     return FINE
+
+
+def total(options):
+    _, paper = described(options.file, lambda text: draft.read(text, alone=True))
+    levels = paper.chain.levels
+    tree = levels[0] if len(levels) == 1 else checked_join(paper)
+    if paper.derived is None:
+        put_text(f"{NO_CONTENT}\n" if tree is None else described_tree(tree))
+    else:
+        put_text(f"derived: {described_tree(paper.derived)}base: {described_tree(tree)}")
+    return FINE
+
+
+def described_tree(tree):
+    """The describing program's words on a tree; they must be this aid's."""
+    range_here = total_here(tree)
+    here = describer.Description(range_here, range_here.minimum == 0)
+    try:
+        given = describer.describe(tree)
+    except NoAnswer as none:
+        raise Stop(UNUSABLE, f"no total range: {none}") from none
+    if given != here:
+        raise Stop(WRONG, f"the total range is {here.total} by this aid, {given.total} by the "
+                   "describing program, or they disagree about emptiness")
+    empty = "emptiable" if given.emptiable else "not emptiable"
+    return f"{given.total.in_words()}; {empty} (docs/KEY.md, T4, W4, E2)\n"
 
 
 def with_joined(text, paper, tree):

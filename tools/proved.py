@@ -49,3 +49,4 @@ class Program(NamedTuple):
 
 MARKER = Program("marker", "MARKER", "the marking program", "mark")
 JOIN = Program("join", "JOIN", "the joining program", "tree")
+DESCRIBE = Program("describe", "DESCRIBE", "the describing program", "description")

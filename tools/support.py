@@ -34,6 +34,7 @@ def needs(program):
 
 needs_marker = needs(proved.MARKER)
 needs_joiner = needs(proved.JOIN)
+needs_describer = needs(proved.DESCRIBE)
 
 ROOT = proved.ROOT
 SAMPLES = ROOT / "samples"
@@ -164,9 +165,9 @@ def spaced(rng, line):
     return text + rng.choice(["", "", " ", " # S[a | : é"])
 
 
-def run(*words, data=b"", program=None, joiner=None, stdout=subprocess.PIPE):
+def run(*words, data=b"", program=None, joiner=None, describer=None, stdout=subprocess.PIPE):
     environment = dict(os.environ)
-    for variable, path in (("MARKER", program), ("JOIN", joiner)):
+    for variable, path in (("MARKER", program), ("JOIN", joiner), ("DESCRIBE", describer)):
         if path:
             environment[variable] = str(path)
     return subprocess.run([str(PAPER), *map(str, words)], input=data, stdout=stdout,

@@ -1,8 +1,8 @@
 """What `tools/paper --help` says of papers."""
 
 DESCRIPTION = (
-    "Turns a paper in document 01's notation into an exam sheet and back, and joins trees that "
-    "extend one another."
+    "Turns a paper in document 01's notation into an exam sheet and back, joins trees that "
+    "extend one another, and tells total ranges."
 )
 
 # tools/README.md has these lines too; a test compares them.
@@ -40,6 +40,9 @@ The mark is that of the marking program, target/bin/marker, which
 `rt check marker` builds; MARKER names another. A chain is joined by the program
 target/bin/join, which `rt check join` builds; JOIN names another. `join` takes
 a paper without DERIVED | too, and puts the joined tree in the chain's place.
+`total` takes the same; the range is that of the program target/bin/describe,
+which `rt check describe` builds; DESCRIBE names another. A number above
+4294967295 is 'too large', and only what has no bound is 'unbounded'.
 
 Exit status: 0 fine; 1 wrong notation or a refused sheet; 2 bad usage, a file
 that can't be read or written, or no answer since a program is missing.
