@@ -204,20 +204,37 @@ fn numbers() -> Vec<Stated> {
         |pair, inner, base| sheet(group(Kind::Sequence, pair, same(1, inner)), wildcard(base));
     let exact = |number| (number, Some(number));
     let half = 1 << 31;
+    let some = |kind, base| {
+        let large = group(Kind::Sequence, exact(65536), same(1, exact(65536)));
+        sheet(group(kind, (0, Some(1)), vec![large, element(1, exact(5))]), wildcard(base))
+    };
+    let sum = |last, base| {
+        let items = vec![element(0, exact(TOP)), element(1, exact(last))];
+        sheet(group(Kind::Sequence, ONCE, items), wildcard(base))
+    };
     vec![
         ("twice 2147483647", times(exact(half - 1), 2, exact(TOP - 1)), "passes"),
-        ("twice 2147483648, capped", times(exact(half), 2, (TOP, None)), "passes"),
-        ("twice 2147483648, unbounded", times(exact(half), 2, (0, Some(TOP))), "fails 116"),
+        ("twice 2147483648, too large", times(exact(half), 2, (TOP, None)), "passes"),
+        ("the same, a bounded base", times(exact(half), 2, (0, Some(TOP))), "fails 116"),
         ("254 times 16909320", times(exact(16909320), 254, exact(4294967280)), "passes"),
         ("254 times 16909321", times(exact(16909321), 254, (TOP, None)), "passes"),
         ("254 times 16909321, bounded", times(exact(16909321), 254, (0, Some(TOP))), "fails 116"),
+        ("4294967295 times no items", times(exact(TOP), 0, exact(0)), "passes"),
+        ("unbounded times no items", times((0, None), 0, (0, Some(TOP))), "fails 116"),
         ("65535 times 65537", total(exact(65535), exact(65537), exact(TOP)), "passes"),
-        ("65536 times 65536, capped", total(exact(65536), exact(65536), (TOP, None)), "passes"),
+        ("65536 times 65536, too large", total(exact(65536), exact(65536), (TOP, None)), "passes"),
         (
-            "65536 times 65536, unbounded",
+            "the same, a bounded wildcard",
             total(exact(65536), exact(65536), (0, Some(TOP))),
             "fails 113",
         ),
+        ("a sum of 4294967295", sum(0, exact(TOP)), "passes"),
+        ("a sum too large", sum(1, (TOP, None)), "passes"),
+        ("a sum too large, bounded", sum(1, (TOP, Some(TOP))), "fails 113"),
+        ("a maximum too large", some(Kind::Choice, (0, None)), "passes"),
+        ("a maximum too large, bounded", some(Kind::Choice, (0, Some(TOP))), "fails 113"),
+        ("zero times too large", some(Kind::Sequence, (0, None)), "passes"),
+        ("zero times too large, a minimum", some(Kind::Sequence, (1, None)), "fails 113"),
         ("unbounded times 0", total((0, None), (0, Some(0)), (0, Some(0))), "passes"),
         ("the largest pair", sheet(element(0, exact(TOP)), element(0, exact(TOP))), "passes"),
         (

@@ -10,8 +10,7 @@ use Rattle.particle.specs.Tree.{tree}
 use Rattle.totals.specs.declared.ranges.TotalRange.{TotalRange}
 use Rattle.totals.specs.Exact.{exactTotal}
 use Rattle.totals.specs.Total.{largest, cutMin, cutBounded, cutMax, cut, total}
-use Rattle.totals.proofs.Cuts.{min-within, min-above, bounded-within, bounded-above, same-range}
-use Rattle.totals.proofs.CutSums.{Side, small, large, side}
+use Rattle.totals.proofs.Cuts.{min-cases, bounded-cases, min-above, bounded-above, same-range}
 use Rattle.intake.specs.declared.Fault.{Fault}
 use Rattle.intake.specs.declared.Fault.the-variants.{Fields, Pair, AllGroup, Depth, Counts}
 use Rattle.intake.specs.declared.Checked.{Checked}
@@ -31,18 +30,10 @@ data Number (n : ℕ) (number : ℕ) : Type 0 where
   over : largest < n → number ≡ tooLarge → Number n number
 
 min-number : (n : ℕ) → Number n (totalMinNumber (cutMin n))
-min-number n = go (side n)
-  where
-    go : Side n → Number n (totalMinNumber (cutMin n))
-    go (small l) = itself l (ap totalMinNumber (min-within n l))
-    go (large l) = over l (ap totalMinNumber (min-above n l))
+min-number n = min-cases (λ m. Number n (totalMinNumber m)) n (λ l. itself l refl) (λ l. over l refl)
 
 bounded-number : (n : ℕ) → Number n (totalMaxNumber (cutBounded n))
-bounded-number n = go (side n)
-  where
-    go : Side n → Number n (totalMaxNumber (cutBounded n))
-    go (small l) = itself l (ap totalMaxNumber (bounded-within n l))
-    go (large l) = over l (ap totalMaxNumber (bounded-above n l))
+bounded-number n = bounded-cases (λ m. Number n (totalMaxNumber m)) n (λ l. itself l refl) (λ l. over l refl)
 
 -- two numbers with one exported number are the same or both too large
 module _ {A : Type 0} (f : ℕ → A) (same : (m n : ℕ) → largest < m → largest < n → f m ≡ f n) where

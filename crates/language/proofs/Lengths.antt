@@ -17,9 +17,8 @@ use Rattle.totals.specs.declared.ranges.TotalMax.{TotalMax}
 use Rattle.totals.specs.declared.ranges.TotalMax.the-variants as most
 use Rattle.totals.specs.declared.ranges.TotalRange.{TotalRange}
 use Rattle.totals.specs.Exact.{addMax, mulMax, maxMax, addRange, mulRange, spanRange, sum, span, exactFrom, exactTotal}
-use Rattle.totals.specs.Total.{largest, cutMin, cutBounded, cutMax, cut, total}
-use Rattle.totals.proofs.Cuts.{min-within, min-above, bounded-within, bounded-above}
-use Rattle.totals.proofs.CutSums.{Side, small, large, side}
+use Rattle.totals.specs.Total.{largest, cutMax, cut, total}
+use Rattle.totals.proofs.Cuts.{min-cases, bounded-cases}
 use Rattle.language.specs.Language.{Words, InOrder, OneOf, Inserted, here, later, Blocks, joined, AnyOrder, AtMost, Rounds, Name, Names, wordsFrom, Allows}
 use Rattle.language.proofs.Rounds.{Many, names-length}
 
@@ -128,18 +127,10 @@ names-measured S p w r = rw (names-length S (r .number) w (r .rounds)) (r .least
 
 -- what lies within the exact range lies within the total range
 cut-within : (n : ℕ) (e : Occurs) → Within n e → WithinTotal n (cut e)
-cut-within n e (l, h) = (low (side (e .min)), high (e .max) h)
+cut-within n e (l, h) = (min-cases (AtLeastTotal n) (e .min) (λ m. l) (λ m. omega arith), high (e .max) h)
   where
-    low : Side (e .min) → AtLeastTotal n (cutMin (e .min))
-    low (small m) = rw (min-within (e .min) m) l
-    low (large m) = rw (min-above (e .min) m) (omega arith)
-
     high : (x : MaxOccurs) → AtMost n x → AtMostTotal n (cutMax x)
-    high (Bounded m) k = go (side m)
-      where
-        go : Side m → AtMostTotal n (cutBounded m)
-        go (small g) = rw (bounded-within m g) k
-        go (large g) = rw (bounded-above m g) tt
+    high (Bounded m) k = bounded-cases (AtMostTotal n) m (λ g. k) (λ g. tt)
     high Unbounded k = tt
 
 module _ (names : Names) where

@@ -2,6 +2,7 @@
 use mathlib.Core.List.{List, _∷_}
 use mathlib.Core.Path.{_≡_, refl, ap, ap₂, sym, _∙_}
 use Prim.Native.Nat.{ℕ, zero, suc, _+_, _*_, _≤_, _<_, min, max}
+use native.Mathlib.Decide.{decLe}
 use native.Mathlib.Nat.{zero-mul}
 use native.Mathlib.Omega.{arith}
 use Rattle.particle.specs.declared.MaxOccurs.{MaxOccurs}
@@ -12,30 +13,24 @@ use Rattle.particle.proofs.Folds.{Matches, ended, next}
 use Rattle.particle.proofs.Every.{EachHead}
 use Rattle.totals.specs.Exact.{addMax, timesUnbounded, mulMax, maxMax, addRange, mulRange, spanRange, sum, span, exactFrom, exactTotal}
 use Rattle.totals.specs.Total.{largest, cutMin, cutBounded, cutMax, cut, total}
-use Rattle.totals.proofs.Cuts.{within, above, min-within, min-above, bounded-within, bounded-above}
-use Rattle.totals.proofs.CutSums.{Side, small, large, side}
+use Rattle.totals.proofs.Cuts.{cut-cases, min-cases, bounded-cases, within, above}
 use Rattle.totals.proofs.Caps.{capMin, capMax, cappedAddMax, cappedMulMax, cappedAdd, cappedMul, cappedSum, cappedFrom, cappedTotal, minWithCap, maxWithCap, withCaps, Max32, Pair32, Leaf32}
 
-pub cap-within : (n : ℕ) → n ≤ largest → capMax n ≡ Bounded n
+cap-cases : (P : MaxOccurs → Type 0) (n : ℕ) → (n ≤ largest → P (Bounded n)) → (largest < n → P Unbounded) → P (capMax n)
+cap-cases P n = cut-cases P (Bounded n) Unbounded n
+
+cap-within : (n : ℕ) → n ≤ largest → capMax n ≡ Bounded n
 cap-within n = within (Bounded n) Unbounded n
 
-pub cap-above : (n : ℕ) → largest < n → capMax n ≡ Unbounded
+cap-above : (n : ℕ) → largest < n → capMax n ≡ Unbounded
 cap-above n = above (Bounded n) Unbounded n
 
 -- an exact number, cut, with the cap
 pub min-with-cap : (n : ℕ) → minWithCap (cutMin n) ≡ capMin n
-min-with-cap n = go (side n)
-  where
-    go : Side n → minWithCap (cutMin n) ≡ capMin n
-    go (small l) = ap minWithCap (min-within n l) ∙ omega arith
-    go (large l) = ap minWithCap (min-above n l) ∙ omega arith
+min-with-cap n = min-cases (λ m. minWithCap m ≡ capMin n) n (λ l. omega arith) (λ l. omega arith)
 
 pub bounded-with-cap : (n : ℕ) → maxWithCap (cutBounded n) ≡ capMax n
-bounded-with-cap n = go (side n)
-  where
-    go : Side n → maxWithCap (cutBounded n) ≡ capMax n
-    go (small l) = ap maxWithCap (bounded-within n l) ∙ sym (cap-within n l)
-    go (large l) = ap maxWithCap (bounded-above n l) ∙ sym (cap-above n l)
+bounded-with-cap n = bounded-cases (λ m. maxWithCap m ≡ capMax n) n (λ l. sym (cap-within n l)) (λ l. sym (cap-above n l))
 
 -- the exact range, capped
 abbrev cappedMax : MaxOccurs → MaxOccurs
@@ -49,12 +44,10 @@ capped o = record { min = capMin (o .min); max = cappedMax (o .max) }
 module _ (op : MaxOccurs → MaxOccurs → MaxOccurs) (left : (y : MaxOccurs) → op Unbounded y ≡ Unbounded) (right : (x : MaxOccurs) → op x Unbounded ≡ Unbounded)
     (a b n : ℕ) (l : a ≤ n) (m : b ≤ n) (both : a ≤ largest → b ≤ largest → op (Bounded a) (Bounded b) ≡ capMax n) where
   bounded-capped : op (capMax a) (capMax b) ≡ capMax n
-  bounded-capped = go (side a) (side b)
-    where
-      go : Side a → Side b → op (capMax a) (capMax b) ≡ capMax n
-      go (small h) (small k) = ap₂ op (cap-within a h) (cap-within b k) ∙ both h k
-      go (small h) (large k) = ap (op (capMax a)) (cap-above b k) ∙ (right (capMax a) ∙ sym (cap-above n (omega arith)))
-      go (large h) s = ap (λ (x : MaxOccurs). op x (capMax b)) (cap-above a h) ∙ (left (capMax b) ∙ sym (cap-above n (omega arith)))
+  bounded-capped =
+      cap-cases (λ x. op x (capMax b) ≡ capMax n) a
+      (λ h. cap-cases (λ y. op (Bounded a) y ≡ capMax n) b (both h) (λ k. right (Bounded a) ∙ sym (cap-above n (omega arith))))
+      (λ h. left (capMax b) ∙ sym (cap-above n (omega arith)))
 
 add-open : (x : MaxOccurs) → cappedAddMax x Unbounded ≡ Unbounded
 add-open (Bounded a) = refl
@@ -87,27 +80,19 @@ unbounded-above zero l = absurd (omega arith)
 unbounded-above (suc b) l = refl
 
 mul-max : (x y : MaxOccurs) → cappedMulMax x (cappedMax y) ≡ cappedMax (mulMax x y)
-mul-max (Bounded a) (Bounded b) = go (side b)
-  where
-    go : Side b → cappedMulMax (Bounded a) (capMax b) ≡ capMax (a * b)
-    go (small l) = ap (cappedMulMax (Bounded a)) (cap-within b l)
-    go (large l) = ap (cappedMulMax (Bounded a)) (cap-above b l) ∙ times-above a b l
+mul-max (Bounded a) (Bounded b) = cap-cases (λ y. cappedMulMax (Bounded a) y ≡ capMax (a * b)) b (λ l. refl) (times-above a b)
 mul-max (Bounded a) Unbounded = times-capped a
-mul-max Unbounded (Bounded b) = go (side b)
-  where
-    go : Side b → cappedMulMax Unbounded (capMax b) ≡ cappedMax (timesUnbounded b)
-    go (small l) = ap (cappedMulMax Unbounded) (cap-within b l) ∙ times-capped b
-    go (large l) = ap (cappedMulMax Unbounded) (cap-above b l) ∙ unbounded-above b l
+mul-max Unbounded (Bounded b) = cap-cases (λ y. cappedMulMax Unbounded y ≡ cappedMax (timesUnbounded b)) b (λ l. times-capped b) (unbounded-above b)
 mul-max Unbounded Unbounded = refl
 
 -- minima
 mul-min : (a b : ℕ) → capMin (a * capMin b) ≡ capMin (a * b)
 mul-min zero b = rw (zero-mul (capMin b), zero-mul b)
-mul-min (suc a) b = go (side b)
+mul-min (suc a) b = go (decLe b largest)
   where
-    go : Side b → capMin (suc a * capMin b) ≡ capMin (suc a * b)
-    go (small l) = let e : capMin b ≡ b = omega arith in rw e
-    go (large l) = let e : capMin b ≡ largest = omega arith in rw e (omega arith)
+    go : Dec (b ≤ largest) → capMin (suc a * capMin b) ≡ capMin (suc a * b)
+    go (yes l) = let e : capMin b ≡ b = omega arith in rw e
+    go (no l) = let e : capMin b ≡ largest = omega arith in rw e (omega arith)
 
 -- ranges
 same-pair : {m n : ℕ} {a b : MaxOccurs} → m ≡ n → a ≡ b → _≡_ {A = Occurs} (record { min = m; max = a }) (record { min = n; max = b })

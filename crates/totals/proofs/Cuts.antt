@@ -1,7 +1,9 @@
--- What the cut is on either side of 4294967295. Assumes nothing.
+-- What the cut is on either side of 4294967295, and the facts by which the code's small functions meet their contracts. Assumes nothing.
 use mathlib.Core.Bool.{Bool, true, false, cond, _&&_}
 use mathlib.Core.Path.{_≡_, refl, sym, _∙_, ap}
 use Prim.Native.Nat.{ℕ, zero, suc, _≤_, _<_}
+use native.Mathlib.Decide.{decLe}
+use native.Mathlib.Omega.{arith}
 use lib.Dec.{leb}
 use borrow.Author.Tests.{le-leb, lt-leb}
 use Rattle.particle.specs.declared.Occurs.{Occurs}
@@ -12,6 +14,22 @@ use Rattle.totals.specs.declared.ranges.TotalMax.the-variants as most
 use Rattle.totals.specs.declared.ranges.TotalRange.{TotalRange}
 use Rattle.totals.specs.Total.{largest, cutMin, cutBounded, totalMinOk, totalMaxOk, totalOk}
 use Rattle.totals.specs.Cut.{mulCutMin, timesOpen}
+
+-- what holds of both that a cut may choose, each on its side, holds of the one that it chooses
+pub cut-cases : {A : Type 0} (P : A → Type 0) (x y : A) (n : ℕ) → (n ≤ largest → P x) → (largest < n → P y) → P (cond (leb n largest) x y)
+cut-cases P x y n f g = go (decLe n largest)
+  where
+    go : Dec (n ≤ largest) → P (cond (leb n largest) x y)
+    go (yes l) = rw (le-leb n largest l) (f l)
+    go (no l) =
+        let m : largest < n = omega arith in
+        rw (lt-leb n largest m) (g m)
+
+pub min-cases : (P : TotalMin → Type 0) (n : ℕ) → (n ≤ largest → P (Exact n)) → (largest < n → P TooLarge) → P (cutMin n)
+min-cases P n = cut-cases P (Exact n) TooLarge n
+
+pub bounded-cases : (P : TotalMax → Type 0) (n : ℕ) → (n ≤ largest → P (most.Bounded n)) → (largest < n → P most.TooLarge) → P (cutBounded n)
+bounded-cases P n = cut-cases P (most.Bounded n) most.TooLarge n
 
 pub within : {A : Type 0} (x y : A) (n : ℕ) → n ≤ largest → cond (leb n largest) x y ≡ x
 within x y n l = rw (le-leb n largest l)

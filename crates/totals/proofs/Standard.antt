@@ -11,12 +11,11 @@ use borrow.Author.Tests.{eqb-true, ne-eqb}
 use Rattle.particle.specs.declared.Occurs.{Occurs}
 use Rattle.particle.specs.Tree.{Head, element, wildcard, sequence, choice, all, Particle, fold}
 use Rattle.particle.proofs.Folds.{Matches, ended, next, fold-matches}
-use Rattle.totals.specs.declared.ranges.TotalMin.the-variants.{Exact, TooLarge}
+use Rattle.totals.specs.declared.ranges.TotalMin.the-variants.{Exact}
 use Rattle.totals.specs.Empty.{every, some, isEmpty, optional, emptiableFrom, emptiable}
 use Rattle.totals.specs.Exact.{sum, span, exactFrom, exactTotal}
 use Rattle.totals.specs.Total.{cutMin, total}
-use Rattle.totals.proofs.Cuts.{min-within, min-above}
-use Rattle.totals.proofs.CutSums.{Side, small, large, side}
+use Rattle.totals.proofs.Cuts.{min-cases}
 
 pos-test : (n : ℕ) → 0 < n → eqb n 0 ≡ false
 pos-test n h = ne-eqb n 0 (λ z. omega arith)
@@ -71,13 +70,9 @@ unfolding emptiable exactTotal
 emptiable-exact x =
     from-agrees (x .head) (fold emptiableFrom (x .items)) (fold exactFrom (x .items)) (fold-matches Agrees emptiableFrom exactFrom from-agrees (x .items))
 
--- the cut keeps 0, and makes no other number 0
+-- the cut makes no other number 0
 cut-zero : (n : ℕ) → cutMin n ≡ Exact 0 → n ≡ 0
-cut-zero n e = go (side n)
-  where
-    go : Side n → n ≡ 0
-    go (small l) = let f : Exact n ≡ Exact 0 = sym (min-within n l) ∙ e in cc
-    go (large l) = let f : TooLarge ≡ Exact 0 = sym (min-above n l) ∙ e in cc
+cut-zero n = min-cases (λ m. m ≡ Exact 0 → n ≡ 0) n (λ l e. cc) (λ l e. cc)
 
 pub emptiable-is-standard : (x : Particle) → (emptiable x ≡ true) ↔ (total x .min ≡ Exact 0)
 unfolding total

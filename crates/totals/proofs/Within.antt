@@ -1,10 +1,10 @@
--- The test of a total range against a pair: what passes is within by its exact numbers, and the answer is the one that the caps gave. Assumes nothing.
+-- The test of a total range against a pair: of pairs of 32 bits it answers as the exact numbers do, and as the range with the caps did. Assumes nothing.
 use mathlib.Core.Bool.{Bool, true, false, _&&_, false≢true}
-use mathlib.Core.Path.{_≡_, refl, ap, ap₂, sym, _∙_}
+use mathlib.Core.Path.{_≡_, refl, ap₂, sym, _∙_}
 use Prim.Native.Nat.{ℕ, _≤_}
 use native.Mathlib.Omega.{arith}
 use lib.Dec.{leb}
-use borrow.Author.Tests.{leb-true, le-leb}
+use borrow.Author.Tests.{leb-true, le-leb, lt-leb}
 use Rattle.particle.specs.declared.MaxOccurs.{MaxOccurs}
 use Rattle.particle.specs.declared.MaxOccurs.the-variants as occurs
 use Rattle.particle.specs.declared.Occurs.{Occurs}
@@ -15,25 +15,16 @@ use Rattle.totals.specs.declared.ranges.TotalMin.the-variants as least
 use Rattle.totals.specs.declared.ranges.TotalMax.{TotalMax}
 use Rattle.totals.specs.declared.ranges.TotalMax.the-variants as most
 use Rattle.totals.specs.declared.ranges.TotalRange.{TotalRange}
-use Rattle.totals.specs.Total.{largest, cutMin, cutBounded, cutMax, cut, totalMinOk, totalMaxOk, totalOk}
-use Rattle.totals.proofs.Cuts.{min-within, min-above, bounded-within, bounded-above}
-use Rattle.totals.proofs.CutSums.{Side, small, large, side}
-use Rattle.totals.proofs.Caps.{minWithCap, maxWithCap, withCaps}
+use Rattle.totals.specs.Total.{largest, cutMin, cutMax, cut, totalMinOk, totalMaxOk, totalOk}
+use Rattle.totals.proofs.Cuts.{min-cases, bounded-cases}
+use Rattle.totals.proofs.Caps.{minWithCap, maxWithCap, withCaps, Max32, Pair32}
 
--- a minimum that passes the test is not below b
+-- a minimum that passes the test is not below b, and a maximum not above
 min-exact : (n b : ℕ) → totalMinOk (cutMin n) b ≡ true → b ≤ n
-min-exact n b t = go (side n)
-  where
-    go : Side n → b ≤ n
-    go (small l) = leb-true b n (sym (ap (λ (m : TotalMin). totalMinOk m b) (min-within n l)) ∙ t)
-    go (large l) = omega (arith, leb-true b largest (sym (ap (λ (m : TotalMin). totalMinOk m b) (min-above n l)) ∙ t))
+min-exact n b = min-cases (λ m. totalMinOk m b ≡ true → b ≤ n) n (λ l t. leb-true b n t) (λ l t. omega (arith, leb-true b largest t))
 
 max-exact : (m b : MaxOccurs) → totalMaxOk (cutMax m) b ≡ true → maxOk m b ≡ true
-max-exact (occurs.Bounded n) (occurs.Bounded b) t = go (side n)
-  where
-    go : Side n → leb n b ≡ true
-    go (small l) = sym (ap (λ (m : TotalMax). totalMaxOk m (occurs.Bounded b)) (bounded-within n l)) ∙ t
-    go (large l) = absurd (false≢true (sym (ap (λ (m : TotalMax). totalMaxOk m (occurs.Bounded b)) (bounded-above n l)) ∙ t))
+max-exact (occurs.Bounded n) (occurs.Bounded b) t = bounded-cases (λ m. totalMaxOk m (occurs.Bounded b) ≡ true → leb n b ≡ true) n (λ l e. e) (λ l e. absurd (false≢true e)) t
 max-exact (occurs.Bounded n) occurs.Unbounded t = refl
 max-exact occurs.Unbounded (occurs.Bounded b) t = t
 max-exact occurs.Unbounded occurs.Unbounded t = refl
@@ -43,6 +34,19 @@ pub ok-exact : (e q : Occurs) → totalOk (cut e) q ≡ true → rangeOk e q ≡
 ok-exact e q t =
     let (l, m) = and-true (totalMinOk (cutMin (e .min)) (q .min)) (totalMaxOk (cutMax (e .max)) (q .max)) t in
     ap₂ _&&_ (le-leb (q .min) (e .min) (min-exact (e .min) (q .min) l)) (max-exact (e .max) (q .max) m)
+
+-- the other way round too, where the pair's numbers have 32 bits: the test answers as the exact numbers do
+min-same : (n b : ℕ) → b ≤ largest → totalMinOk (cutMin n) b ≡ leb b n
+min-same n b h = min-cases (λ m. totalMinOk m b ≡ leb b n) n (λ l. refl) (λ l. le-leb b largest h ∙ sym (le-leb b n (omega arith)))
+
+max-same : (m b : MaxOccurs) → Max32 b → totalMaxOk (cutMax m) b ≡ maxOk m b
+max-same (occurs.Bounded n) (occurs.Bounded b) h = bounded-cases (λ m. totalMaxOk m (occurs.Bounded b) ≡ leb n b) n (λ l. refl) (λ l. sym (lt-leb n b (omega arith)))
+max-same (occurs.Bounded n) occurs.Unbounded h = refl
+max-same occurs.Unbounded (occurs.Bounded b) h = refl
+max-same occurs.Unbounded occurs.Unbounded h = refl
+
+pub ok-is-exact : (e q : Occurs) → Pair32 q → totalOk (cut e) q ≡ rangeOk e q
+ok-is-exact e q (l, m) = ap₂ _&&_ (min-same (e .min) (q .min) l) (max-same (e .max) (q .max) m)
 
 -- the test answers what it answered of the range with the caps
 pub ok-with-caps : (t : TotalRange) (q : Occurs) → totalOk t q ≡ rangeOk (withCaps t) q
