@@ -41,7 +41,10 @@ pub fn answers(bytes: &[u8], rng: &mut Rng, tally: &mut Tally) -> Result<(), Dif
 
 /// Compares the total range with the second reading's, and with the Rust's.
 fn totals(tree: &[u8], expected: &Answers) -> Result<(), Difference> {
-    let text = |answer: u64| format!("{answer} ({})", answers::total_text(answer));
+    let text = |answer: u64| match answers::total_text(answer) {
+        words if answer < BEYOND => words,
+        words => format!("{answer} ({words})"),
+    };
     let (min, max) = (library::total_min(tree), library::total_max(tree));
     same("total minimum", expected.total.0, min, text)?;
     same("total maximum", expected.total.1, max, text)?;
