@@ -11,7 +11,7 @@ use Rattle.totals.specs.declared.ranges.TotalMax.{TotalMax}
 use Rattle.totals.specs.declared.ranges.TotalMax.the-variants as most
 use Rattle.totals.specs.Exact.{addMax, timesUnbounded, mulMax, maxMax, addRange, mulRange, spanRange}
 use Rattle.totals.specs.Total.{largest, cutMin, cutBounded, cutMax, cut}
-use Rattle.totals.specs.Cut.{addCutMin, mulCutMin, minCutMin, withTooLarge, addCutMax, maxCutMax, timesOpen, timesCutMax, unboundedTimes, mulCutMax, addCut, mulCut, spanCut}
+use Rattle.totals.specs.Cut.{addCutMin, mulCutMin, minCutMin, withTooLarge, ofBoth, addCutMax, maxCutMax, timesOpen, timesCutMax, unboundedTimes, mulCutMax, addCut, mulCut, spanCut}
 use Rattle.totals.proofs.Cuts.{min-cases, bounded-cases, min-within, min-above, bounded-within, bounded-above, same-range}
 
 -- Minima -------------------------------------------------------------------------
@@ -43,34 +43,27 @@ min-min a b =
 with-bounded : (b : ℕ) → withTooLarge (cutBounded b) ≡ most.TooLarge
 with-bounded b = bounded-cases (λ y. withTooLarge y ≡ most.TooLarge) b (λ l. refl) (λ l. refl)
 
--- one law for the sum and the greater: where an operand is too large, so is the result n
-module _ (op : TotalMax → TotalMax → TotalMax) (left : (y : TotalMax) → op most.TooLarge y ≡ withTooLarge y) (a b n : ℕ) (l : a ≤ n) (m : b ≤ n)
-    (right : op (most.Bounded a) most.TooLarge ≡ most.TooLarge) (both : a ≤ largest → b ≤ largest → op (most.Bounded a) (most.Bounded b) ≡ cutBounded n) where
-  bounded-both : op (cutBounded a) (cutBounded b) ≡ cutBounded n
-  bounded-both =
-      bounded-cases (λ x. op x (cutBounded b) ≡ cutBounded n) a
-      (λ h. bounded-cases (λ y. op (most.Bounded a) y ≡ cutBounded n) b (both h) (λ k. right ∙ sym (bounded-above n (omega arith))))
-      (λ h. left (cutBounded b) ∙ (with-bounded b ∙ sym (bounded-above n (omega arith))))
+one-open : (f : ℕ → ℕ → TotalMax) (x : TotalMax) → ofBoth f x most.Unbounded ≡ most.Unbounded
+one-open f (most.Bounded a) = refl
+one-open f most.TooLarge = refl
+one-open f most.Unbounded = refl
 
-add-open : (x : TotalMax) → addCutMax x most.Unbounded ≡ most.Unbounded
-add-open (most.Bounded a) = refl
-add-open most.TooLarge = refl
-add-open most.Unbounded = refl
-
-max-open : (x : TotalMax) → maxCutMax x most.Unbounded ≡ most.Unbounded
-max-open (most.Bounded a) = refl
-max-open most.TooLarge = refl
-max-open most.Unbounded = refl
+-- One law for the sum and the greater, f of cut numbers and g of exact ones: where an operand is too large, so is the result.
+module _ (f : ℕ → ℕ → TotalMax) (g : ℕ → ℕ → ℕ) (left : (a b : ℕ) → a ≤ g a b) (right : (a b : ℕ) → b ≤ g a b) (same : (a b : ℕ) → a ≤ largest → b ≤ largest → f a b ≡ cutBounded (g a b)) where
+  both-bounded : (a b : ℕ) → ofBoth f (cutBounded a) (cutBounded b) ≡ cutBounded (g a b)
+  both-bounded a b =
+      bounded-cases (λ x. ofBoth f x (cutBounded b) ≡ cutBounded (g a b)) a
+      (λ h. bounded-cases (λ y. ofBoth f (most.Bounded a) y ≡ cutBounded (g a b)) b (same a b h) (λ k. sym (bounded-above (g a b) (omega (arith, right a b)))))
+      (λ h. with-bounded b ∙ sym (bounded-above (g a b) (omega (arith, left a b))))
 
 add-max : (x y : MaxOccurs) → addCutMax (cutMax x) (cutMax y) ≡ cutMax (addMax x y)
-add-max (occurs.Bounded a) (occurs.Bounded b) = bounded-both addCutMax (λ y. refl) a b (a + b) (omega arith) (omega arith) refl (λ h k. refl)
-add-max (occurs.Bounded a) occurs.Unbounded = add-open (cutBounded a)
+add-max (occurs.Bounded a) (occurs.Bounded b) = both-bounded _ _+_ (λ m n. omega arith) (λ m n. omega arith) (λ m n h k. refl) a b
+add-max (occurs.Bounded a) occurs.Unbounded = one-open _ (cutBounded a)
 add-max occurs.Unbounded y = refl
 
 max-max : (x y : MaxOccurs) → maxCutMax (cutMax x) (cutMax y) ≡ cutMax (maxMax x y)
-max-max (occurs.Bounded a) (occurs.Bounded b) =
-    bounded-both maxCutMax (λ y. refl) a b (max a b) (omega arith) (omega arith) refl (λ h k. sym (bounded-within (max a b) (omega arith)))
-max-max (occurs.Bounded a) occurs.Unbounded = max-open (cutBounded a)
+max-max (occurs.Bounded a) (occurs.Bounded b) = both-bounded _ max (λ m n. omega arith) (λ m n. omega arith) (λ m n h k. sym (bounded-within (max m n) (omega arith))) a b
+max-max (occurs.Bounded a) occurs.Unbounded = one-open _ (cutBounded a)
 max-max occurs.Unbounded y = refl
 
 times-unbounded : (a : ℕ) → timesOpen a most.Unbounded ≡ cutMax (timesUnbounded a)

@@ -1,4 +1,4 @@
--- Sums, products and spans of ranges that are cut already: what the code computes with. They are the exact ones, cut (proofs/Cuts.antt). Assumes nothing: these are definitions.
+-- Sums, products and spans of ranges that are cut already: what the code computes with. They are the exact ones, cut (proofs/CutSums.antt). Assumes nothing: these are definitions.
 use Prim.Native.Nat.{ℕ, zero, suc, _+_, _*_, min, max}
 use Rattle.particle.specs.declared.MaxOccurs.{MaxOccurs}
 use Rattle.particle.specs.declared.MaxOccurs.the-variants as occurs
@@ -37,20 +37,20 @@ withTooLarge (most.Bounded b) = most.TooLarge
 withTooLarge most.TooLarge = most.TooLarge
 withTooLarge most.Unbounded = most.Unbounded
 
+-- two maxima: f of the numbers where both are bounded; otherwise unbounded if one of them is, else too large
+abbrev pub ofBoth : (ℕ → ℕ → TotalMax) → TotalMax → TotalMax → TotalMax
+ofBoth f (most.Bounded a) (most.Bounded b) = f a b
+ofBoth f (most.Bounded a) most.TooLarge = most.TooLarge
+ofBoth f (most.Bounded a) most.Unbounded = most.Unbounded
+ofBoth f most.TooLarge b = withTooLarge b
+ofBoth f most.Unbounded b = most.Unbounded
+
 abbrev pub addCutMax : TotalMax → TotalMax → TotalMax
-addCutMax (most.Bounded a) (most.Bounded b) = cutBounded (a + b)
-addCutMax (most.Bounded a) most.TooLarge = most.TooLarge
-addCutMax (most.Bounded a) most.Unbounded = most.Unbounded
-addCutMax most.TooLarge b = withTooLarge b
-addCutMax most.Unbounded b = most.Unbounded
+addCutMax = ofBoth (λ a b. cutBounded (a + b))
 
 -- the greater
 abbrev pub maxCutMax : TotalMax → TotalMax → TotalMax
-maxCutMax (most.Bounded a) (most.Bounded b) = most.Bounded (max a b)
-maxCutMax (most.Bounded a) most.TooLarge = most.TooLarge
-maxCutMax (most.Bounded a) most.Unbounded = most.Unbounded
-maxCutMax most.TooLarge b = withTooLarge b
-maxCutMax most.Unbounded b = most.Unbounded
+maxCutMax = ofBoth (λ a b. most.Bounded (max a b))
 
 -- zero times what is too large or unbounded is 0; any other number times it is what it was
 abbrev pub timesOpen : ℕ → TotalMax → TotalMax
