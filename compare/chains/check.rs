@@ -96,9 +96,8 @@ pub fn text(answer: u64) -> String {
 /// The library accepts the joined tree alone, and as the base of a sheet whose
 /// leaves have its numbers and kinds, and then marks as the oracle does.
 fn as_tree(joined: &[u8], rng: &mut Rng, tally: &mut Tally) -> Result<(), Difference> {
-    let min = library::total_min(joined);
-    if min >= BEYOND {
-        let (expected, got) = ("accepted".into(), format!("refused {}", min - BEYOND));
+    if let Some(number) = answers::total_refusal(library::total_min(joined)) {
+        let (expected, got) = ("accepted".into(), format!("refused {number}"));
         return Err(Difference { what: "the joined tree alone".into(), expected, got });
     }
     let tree = Tree::decode(joined);

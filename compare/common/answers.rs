@@ -39,22 +39,28 @@ pub fn text(answer: u32) -> String {
     }
 }
 
+/// The number of the refusal that stands in place of a total, if one does.
+pub fn total_refusal(answer: u64) -> Option<u64> {
+    let beyond = answer.checked_sub(BEYOND)?;
+    (beyond > 0 && answer != TOO_LARGE).then_some(beyond)
+}
+
 /// The words for the minimum or the maximum of a total range, or for the
 /// refusal in its place.
 pub fn total_text(answer: u64) -> String {
-    match answer {
-        BEYOND => "unbounded".into(),
-        TOO_LARGE => "too large".into(),
-        _ if answer > BEYOND => format!("refused {}", answer - BEYOND),
-        _ => answer.to_string(),
+    match (answer, total_refusal(answer)) {
+        (_, Some(number)) => format!("refused {number}"),
+        (BEYOND, None) => "unbounded".into(),
+        (TOO_LARGE, None) => "too large".into(),
+        (number, None) => number.to_string(),
     }
 }
 
 /// The words for a total range, as `4294967295, unbounded`.
 pub fn range_text((min, max): (u64, u64)) -> String {
-    match (total_text(min), total_text(max)) {
-        (refused, _) if refused.starts_with("refused") => refused,
-        (min, max) => format!("{min}, {max}"),
+    match total_refusal(min) {
+        Some(_) => total_text(min),
+        None => format!("{}, {}", total_text(min), total_text(max)),
     }
 }
 

@@ -1,5 +1,5 @@
 //! The proved library's entries, exported with a C ABI, behind safe functions.
-//! `BEYOND` and `REFUSED` stand in common/answers.rs. `link/check-names` holds
+//! `BEYOND`, `TOO_LARGE` and `REFUSED` stand in common/answers.rs. `link/check-names` holds
 //! these declarations to crates/exports.
 
 unsafe extern "C" {
@@ -17,12 +17,14 @@ unsafe extern "C" {
     ) -> u64;
 }
 
-/// The total range's minimum; or `BEYOND` + N where the tree is refused with N.
+/// The total range's minimum, `TOO_LARGE` where it is too large; or `BEYOND` + N
+/// where the tree is refused with N.
 pub fn total_min(tree: &[u8]) -> u64 {
     unsafe { marker_total_min(tree.as_ptr(), tree.len()) }
 }
 
-/// The total range's maximum, `BEYOND` where it is unbounded; or `BEYOND` + N
+/// The total range's maximum, `TOO_LARGE` where it is too large, `BEYOND` where it
+/// is unbounded; or `BEYOND` + N
 /// where the tree is refused with N.
 pub fn total_max(tree: &[u8]) -> u64 {
     unsafe { marker_total_max(tree.as_ptr(), tree.len()) }
