@@ -1,6 +1,6 @@
 //! The proved library's entries, exported with a C ABI, behind safe functions.
-//! `BEYOND`, `TOO_LARGE` and `REFUSED` stand in common/answers.rs. `link/check-names` holds
-//! these declarations to crates/exports.
+//! `BEYOND`, `TOO_LARGE` and `REFUSED` stand in common/answers.rs.
+//! `link/check-names` holds these declarations to crates/exports.
 
 unsafe extern "C" {
     fn marker_total_min(tree: *const u8, len: usize) -> u64;
@@ -24,8 +24,7 @@ pub fn total_min(tree: &[u8]) -> u64 {
 }
 
 /// The total range's maximum, `TOO_LARGE` where it is too large, `BEYOND` where it
-/// is unbounded; or `BEYOND` + N
-/// where the tree is refused with N.
+/// is unbounded; or `BEYOND` + N where the tree is refused with N.
 pub fn total_max(tree: &[u8]) -> u64 {
     unsafe { marker_total_max(tree.as_ptr(), tree.len()) }
 }
