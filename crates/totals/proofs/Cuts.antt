@@ -1,6 +1,6 @@
 -- What the cut is on either side of 4294967295, and the facts by which the code's small functions meet their contracts. Assumes nothing.
 use mathlib.Core.Bool.{Bool, true, false, cond, _&&_}
-use mathlib.Core.Path.{_≡_, refl, sym, _∙_, ap}
+use mathlib.Core.Path.{_≡_, refl, ap, ap₂, sym, _∙_}
 use Prim.Native.Nat.{ℕ, zero, suc, _≤_, _<_}
 use native.Mathlib.Decide.{decLe}
 use native.Mathlib.Omega.{arith}
@@ -65,6 +65,23 @@ test-fails t b e f = sym (ap (λ (a : Bool). a && totalMaxOk (t .max) (b .max)) 
 
 pub test-decides : {c r : Bool} (t : TotalRange) (b : Occurs) → c ≡ totalMinOk (t .min) (b .min) → c ≡ true → r ≡ totalMaxOk (t .max) (b .max) → r ≡ totalOk t b
 test-decides t b e f g = g ∙ sym (ap (λ (a : Bool). a && totalMaxOk (t .max) (b .max)) (sym e ∙ f))
+
+-- f of operands of which something is known, the first, the second or both; and of a number that was computed
+module _ {A B C : Type 0} (f : A → B → C) {r : C} where
+  pub of-left : {a x : A} (b : B) → a ≡ x → r ≡ f x b → r ≡ f a b
+  of-left b e p = p ∙ ap (λ (z : A). f z b) (sym e)
+
+  pub of-right : (a : A) {b y : B} → b ≡ y → r ≡ f a y → r ≡ f a b
+  of-right a e p = p ∙ ap (f a) (sym e)
+
+  pub of-both : {a x : A} {b y : B} → a ≡ x → b ≡ y → r ≡ f x y → r ≡ f a b
+  of-both e g p = p ∙ ap₂ f (sym e) (sym g)
+
+pub of-one : {A B : Type 0} (f : A → B) {a x : A} {r : B} → a ≡ x → r ≡ f x → r ≡ f a
+of-one f e p = p ∙ ap f (sym e)
+
+pub computed : {B : Type 0} (f : ℕ → B) {m n : ℕ} {r : B} → m ≡ n → r ≡ f m → r ≡ f n
+computed f e p = p ∙ ap f e
 
 -- a range, number by number
 pub same-range : {m n : TotalMin} {a b : TotalMax} → m ≡ n → a ≡ b → _≡_ {A = TotalRange} (record { min = m; max = a }) (record { min = n; max = b })

@@ -1,5 +1,8 @@
 -- `totals::ranges::add_min` meets its contract. Assumes nothing.
 use borrow.Author.Needs.{needs}
+use Rattle.totals.specs.Total.{cutMin}
+use Rattle.totals.specs.Cut.{addCutMin}
+use Rattle.totals.proofs.Cuts.{of-left, of-both, computed}
 use Rattle.totals.proofs.ranges.add_min.Statement.{statement}
 use Rattle.totals.proofs.ranges.add_min.Tie as tie
 
@@ -13,6 +16,6 @@ add-min-spec =
     (λ c. search needs)
     (λ c κs. search needs)
     (λ c κs. search needs)
-    (λ c. search needs)
-    (λ c. search needs)
-    (λ c. cc))
+    (λ c. search (of-left addCutMin))
+    (λ c. search (of-both addCutMin))
+    (λ c. search (of-both addCutMin, computed cutMin)))

@@ -1,5 +1,7 @@
 -- `totals::ranges::min_min` meets its contract. Assumes nothing.
 use borrow.Author.Needs.{needs}
+use Rattle.totals.specs.Cut.{minCutMin}
+use Rattle.totals.proofs.Cuts.{of-left, of-both}
 use Rattle.totals.proofs.ranges.min_min.Statement.{statement}
 use Rattle.totals.proofs.ranges.min_min.Tie as tie
 
@@ -12,6 +14,6 @@ min-min-spec =
     (λ c. search needs)
     (λ c. search needs)
     (λ c κs. search needs)
-    (λ c. search needs)
-    (λ c. cc)
-    (λ c. cc))
+    (λ c. search (of-left minCutMin))
+    (λ c. search (of-both minCutMin))
+    (λ c. search (of-both minCutMin)))
