@@ -3,6 +3,7 @@ use mathlib.Core.Bool.{Bool, true, false, _||_, Bool·beq, true≢false, false�
 use mathlib.Core.List.{List, [], _∷_}
 use mathlib.Core.Path.{_≡_, refl, ap, sym, _∙_}
 use Prim.Native.Nat.{ℕ, _-_, _≤_, _<_}
+use native.Mathlib.Omega.{arith}
 use borrow.Author.Tests.{ne-eqb}
 use Rattle.particle.specs.declared.Occurs.{Occurs}
 use Rattle.particle.specs.declared.Record.{Record}
@@ -12,6 +13,7 @@ use Rattle.particle.specs.Rows.{Row, row, itemsPart, laterPart}
 use Rattle.particle.proofs.ByKind.{any-kind}
 use Rattle.particle.proofs.Folds.{first-is, items-are, first-leaf, first-choice, first-ordered, fold-none, fold-some}
 use Rattle.totals.specs.Empty.{every, some, everyOrSome, isEmpty, optional, emptiableFrom, emptiable}
+use Rattle.totals.proofs.Falls.{Part, part-start, part-next}
 
 optional-from : (k l : ℕ) (p : Occurs) (es : List Bool) → p .min ≡ 0 → emptiableFrom (headFrom k l p) es ≡ true
 optional-from k l p es z = any-kind (λ h. emptiableFrom h es ≡ true) l p (rw z) (rw z) (rw z) (rw z) (rw z) k
@@ -67,17 +69,27 @@ first-decides true false fs s = refl
 first-decides false true fs s = refl
 first-decides false false fs s = absurd (true≢false s)
 
-pub no-item : (each : Bool) {n : ℕ} (t : List ℕ) → n ≡ 0 → each ≡ everyOrSome each (fold emptiableFrom (row n t))
-no-item each {n} t z = none-decides each ∙ ap (everyOrSome each) (sym (fold-none emptiableFrom n t z))
+-- The loop over the items: each of those before s is as `each` asks, so what is left, i items from s on, decides.
+pub record ItemsLeft (each : Bool) (n : ℕ) (t s : List ℕ) (i : ℕ) : Type 0 where
+  pub part : Part i s t
+  pub rest-says : everyOrSome each (fold emptiableFrom (row n t)) ≡ everyOrSome each (fold emptiableFrom (row i s))
 
--- e: whether the first tree of a row is emptiable
-module _ {n : ℕ} {t : List ℕ} (w : Row n t) (z : n ≡ 0 → ⊥) {e : Bool} (q : e ≡ emptiable (tree t)) where
-  row-emptiable : {s : List ℕ} → s ≡ laterPart t → fold emptiableFrom (row n t) ≡ e ∷ fold emptiableFrom (row (n - 1) s)
-  unfolding emptiable
-  row-emptiable = fold-some emptiableFrom n t w z q
+module _ {each : Bool} {n : ℕ} {t : List ℕ} where
+  pub items-start : Row n t → ItemsLeft each n t t n
+  items-start w = record { part = part-start w; rest-says = refl }
 
-  pub first-item : (each : Bool) → Bool·beq e each ≡ false → e ≡ everyOrSome each (fold emptiableFrom (row n t))
-  first-item each b = rw (row-emptiable refl) (first-decides each e _ b)
+  module _ {s : List ℕ} {i : ℕ} (w : ItemsLeft each n t s i) where
+    pub items-end : i ≤ 0 → each ≡ everyOrSome each (fold emptiableFrom (row n t))
+    items-end z = none-decides each ∙ sym (w .rest-says ∙ ap (everyOrSome each) (fold-none emptiableFrom i s (omega arith)))
 
-  pub later-items : (each : Bool) {s : List ℕ} {u : Bool} → s ≡ laterPart t → Bool·beq e each ≡ true → u ≡ everyOrSome each (fold emptiableFrom (row (n - 1) s)) → u ≡ everyOrSome each (fold emptiableFrom (row n t))
-  later-items each p b a = a ∙ rw (row-emptiable p) (later-decide each e _ b)
+    -- e: whether the next item is emptiable
+    module _ {m : ℕ} (some : m < i) {e : Bool} (q : e ≡ emptiable (tree s)) where
+      first-then-later : {u : List ℕ} → u ≡ laterPart s → everyOrSome each (fold emptiableFrom (row n t)) ≡ everyOrSome each (e ∷ fold emptiableFrom (row (i - 1) u))
+      unfolding emptiable
+      first-then-later p = w .rest-says ∙ ap (everyOrSome each) (fold-some emptiableFrom i s (w .part .trees) (λ z. omega arith) q p)
+
+      pub item-decides : Bool·beq e each ≡ false → e ≡ everyOrSome each (fold emptiableFrom (row n t))
+      item-decides b = first-decides each e _ b ∙ sym (first-then-later refl)
+
+      pub items-next : {u : List ℕ} → u ≡ laterPart s → Bool·beq e each ≡ true → ItemsLeft each n t u (i - 1)
+      items-next p b = record { part = part-next (w .part) some p; rest-says = first-then-later p ∙ sym (later-decide each e _ b) }

@@ -3,6 +3,7 @@ pub mod CutSums
 pub mod Falls
 pub mod Emptiness
 pub mod TotalRange
+pub mod Gathered
 pub mod Standard
 pub mod Caps
 pub mod Capped

@@ -41,17 +41,22 @@ fn items_emptiable(t: &[u8], n: usize, each: bool) -> bool
     requires { ⌜ Row n (now t) ⌝ }
     ensures { λ r. ⌜ r ≡ everyOrSome each (fold emptiableFrom (row n (now (t .entry)))) ⌝ }
 {
-    if n == 0 {
-        return each;
+    let mut items = t;
+    let mut left = n;
+    while 0 < left {
+        let found = emptiable(items);
+        if found != each {
+            return found;
+        }
+        let next = particle::later(items);
+        items = next;
+        left -= 1;
     }
-    let first = emptiable(t);
-    if first == each {
-        return items_emptiable(particle::later(t), n - 1, each);
-    }
-    first
+    each
 }
 
-// The total range of the first tree of t.
+// The total range of the first tree of t. It goes as the W3C text goes (3.8.6, Effective Total Range): all and sequence, then choice; of each the
+// minimum, then the maximum, in which order `ranges` works both. A leaf, of which that text doesn't speak, has its own pair.
 pub fn effective_total_range(t: &[u8]) -> TotalRange
     requires { ⌜ Row 1 (now t) ⌝ }
     ensures { λ r. ⌜ r ≡ total (tree (now (t .entry))) ⌝ }
@@ -62,25 +67,38 @@ pub fn effective_total_range(t: &[u8]) -> TotalRange
         return ranges::own_range(own);
     }
     let n = head.count as usize;
-    if head.kind == particle::CHOICE {
-        return ranges::mul_range(own, span_of(particle::items(t), n));
+    if head.kind != particle::CHOICE {
+        return ranges::mul_range(own, sum_of(particle::items(t), n));
     }
-    ranges::mul_range(own, sum_of(particle::items(t), n))
+    ranges::mul_range(own, span_of(particle::items(t), n))
 }
 
-// The sum of the total ranges of the first n trees of t.
+// All and sequence: the sum of the total ranges of the first n trees of t. An element or wildcard counts by its own pair, and only for a group is there
+// a call, so that calls nest once a level.
 fn sum_of(t: &[u8], n: usize) -> TotalRange
     requires { ⌜ Row n (now t) ⌝ }
     ensures { λ r. ⌜ r ≡ cut (sum (fold exactFrom (row n (now (t .entry))))) ⌝ }
 {
-    if n == 0 {
-        return ranges::zero();
+    let mut sum = ranges::zero();
+    let mut items = t;
+    let mut to_add = n;
+    while 0 < to_add {
+        let item = items;
+        let next = particle::later(item);
+        items = next;
+        to_add -= 1;
+        let head = particle::record_at(item);
+        if head.kind < particle::SEQUENCE {
+            sum = ranges::add_range(sum, ranges::own_range(particle::range(head)));
+        } else {
+            sum = ranges::add_range(sum, effective_total_range(item));
+        }
     }
-    let first = effective_total_range(t);
-    ranges::add_range(first, sum_of(particle::later(t), n - 1))
+    sum
 }
 
-// The least minimum and the greatest maximum among the total ranges of the first n trees of t.
+// Choice: the least minimum and the greatest maximum among the total ranges of the first n trees of t, in the same way. The first tree's is
+// the one to begin with.
 fn span_of(t: &[u8], n: usize) -> TotalRange
     requires { ⌜ Row n (now t) ⌝ }
     ensures { λ r. ⌜ r ≡ cut (span (fold exactFrom (row n (now (t .entry))))) ⌝ }
@@ -88,9 +106,20 @@ fn span_of(t: &[u8], n: usize) -> TotalRange
     if n == 0 {
         return ranges::zero();
     }
-    let first = effective_total_range(t);
-    if n == 1 {
-        return first;
+    let mut span = effective_total_range(t);
+    let mut items = particle::later(t);
+    let mut others = n - 1;
+    while 0 < others {
+        let item = items;
+        let next = particle::later(item);
+        items = next;
+        others -= 1;
+        let head = particle::record_at(item);
+        if head.kind < particle::SEQUENCE {
+            span = ranges::span_range(span, ranges::own_range(particle::range(head)));
+        } else {
+            span = ranges::span_range(span, effective_total_range(item));
+        }
     }
-    ranges::span_range(first, span_of(particle::later(t), n - 1))
+    span
 }

@@ -1,5 +1,5 @@
-// Total ranges: a minimum that is exact or too large, a maximum that is bounded, too large or unbounded; their sums, products and spans,
-// and when one is within a pair.
+// Total ranges: a minimum that is exact or too large, a maximum that is bounded, too large or unbounded. What is done with them, in the order of
+// the W3C text (3.8.6): all and sequence, then choice; of each the minimum, then the maximum. Last, when one is within a pair.
 ghost use mathlib.Core.Path.{_≡_};
 ghost use Prim.Native.Nat.{_+_, _*_, min, max};
 ghost use Rattle.particle.specs.Occurs.{exactly};
@@ -50,203 +50,6 @@ fn cut_bounded(m: u64) -> TotalMax
     TotalMax::Bounded(m as u32)
 }
 
-// The whole sum and the whole product: 64 bits hold them.
-fn whole_sum(a: u32, b: u32) -> u64
-    ensures { λ r. ⌜ r ≡ a + b ⌝ }
-{
-    (a as u64) + (b as u64)
-}
-
-fn product(a: u32, b: u32) -> u64
-    ensures { λ r. ⌜ r ≡ a * b ⌝ }
-{
-    (a as u64) * (b as u64)
-}
-
-// The product of two numbers of 32 bits as a minimum, and as a maximum.
-pub fn product_min(a: u32, b: u32) -> TotalMin
-    ensures { λ r. ⌜ r ≡ cutMin (a * b) ⌝ }
-{
-    cut_min(product(a, b))
-}
-
-pub fn product_max(a: u32, b: u32) -> TotalMax
-    ensures { λ r. ⌜ r ≡ cutBounded (a * b) ⌝ }
-{
-    cut_bounded(product(a, b))
-}
-
-fn lesser(a: u32, b: u32) -> u32
-    ensures { λ r. ⌜ r ≡ min a b ⌝ }
-{
-    if a < b { a } else { b }
-}
-
-fn greater(a: u32, b: u32) -> u32
-    ensures { λ r. ⌜ r ≡ max a b ⌝ }
-{
-    if a < b { b } else { a }
-}
-
-fn add_min(a: TotalMin, b: TotalMin) -> TotalMin
-    ensures { λ r. ⌜ r ≡ addCutMin a b ⌝ }
-{
-    match a {
-        TotalMin::TooLarge => TotalMin::TooLarge,
-        TotalMin::Exact(m) => match b {
-            TotalMin::TooLarge => TotalMin::TooLarge,
-            TotalMin::Exact(n) => cut_min(whole_sum(m, n)),
-        },
-    }
-}
-
-// a times b: zero times too large is 0.
-fn mul_min(a: u32, b: TotalMin) -> TotalMin
-    ensures { λ r. ⌜ r ≡ mulCutMin a b ⌝ }
-{
-    match b {
-        TotalMin::Exact(n) => product_min(a, n),
-        TotalMin::TooLarge => {
-            if a == 0 {
-                TotalMin::Exact(0)
-            } else {
-                TotalMin::TooLarge
-            }
-        }
-    }
-}
-
-// The lesser minimum: an exact one is below one that is too large.
-fn min_min(a: TotalMin, b: TotalMin) -> TotalMin
-    ensures { λ r. ⌜ r ≡ minCutMin a b ⌝ }
-{
-    match a {
-        TotalMin::TooLarge => b,
-        TotalMin::Exact(m) => match b {
-            TotalMin::TooLarge => TotalMin::Exact(m),
-            TotalMin::Exact(n) => TotalMin::Exact(lesser(m, n)),
-        },
-    }
-}
-
-// The sum of b and a maximum that is too large, and the greater of the two.
-fn with_too_large(b: TotalMax) -> TotalMax
-    ensures { λ r. ⌜ r ≡ withTooLarge b ⌝ }
-{
-    match b {
-        TotalMax::Bounded(_) => TotalMax::TooLarge,
-        TotalMax::TooLarge => TotalMax::TooLarge,
-        TotalMax::Unbounded => TotalMax::Unbounded,
-    }
-}
-
-fn add_max(a: TotalMax, b: TotalMax) -> TotalMax
-    ensures { λ r. ⌜ r ≡ addCutMax a b ⌝ }
-{
-    match a {
-        TotalMax::Unbounded => TotalMax::Unbounded,
-        TotalMax::TooLarge => with_too_large(b),
-        TotalMax::Bounded(m) => match b {
-            TotalMax::Unbounded => TotalMax::Unbounded,
-            TotalMax::TooLarge => TotalMax::TooLarge,
-            TotalMax::Bounded(n) => cut_bounded(whole_sum(m, n)),
-        },
-    }
-}
-
-// The greater maximum.
-fn max_max(a: TotalMax, b: TotalMax) -> TotalMax
-    ensures { λ r. ⌜ r ≡ maxCutMax a b ⌝ }
-{
-    match a {
-        TotalMax::Unbounded => TotalMax::Unbounded,
-        TotalMax::TooLarge => with_too_large(b),
-        TotalMax::Bounded(m) => match b {
-            TotalMax::Unbounded => TotalMax::Unbounded,
-            TotalMax::TooLarge => TotalMax::TooLarge,
-            TotalMax::Bounded(n) => TotalMax::Bounded(greater(m, n)),
-        },
-    }
-}
-
-// a times b, where b is too large or unbounded: zero times it is 0.
-fn times_open(a: u32, b: TotalMax) -> TotalMax
-    ensures { λ r. ⌜ r ≡ timesOpen a b ⌝ }
-{
-    if a == 0 { TotalMax::Bounded(0) } else { b }
-}
-
-// a times b.
-fn times_max(a: u32, b: TotalMax) -> TotalMax
-    ensures { λ r. ⌜ r ≡ timesCutMax a b ⌝ }
-{
-    match b {
-        TotalMax::Bounded(n) => product_max(a, n),
-        TotalMax::TooLarge => times_open(a, TotalMax::TooLarge),
-        TotalMax::Unbounded => times_open(a, TotalMax::Unbounded),
-    }
-}
-
-// Unbounded times b.
-fn unbounded_times(b: TotalMax) -> TotalMax
-    ensures { λ r. ⌜ r ≡ unboundedTimes b ⌝ }
-{
-    match b {
-        TotalMax::Bounded(n) => times_open(n, TotalMax::Unbounded),
-        TotalMax::TooLarge => TotalMax::Unbounded,
-        TotalMax::Unbounded => TotalMax::Unbounded,
-    }
-}
-
-fn mul_max(a: MaxOccurs, b: TotalMax) -> TotalMax
-    ensures { λ r. ⌜ r ≡ mulCutMax a b ⌝ }
-{
-    match a {
-        MaxOccurs::Bounded(m) => times_max(m, b),
-        MaxOccurs::Unbounded => unbounded_times(b),
-    }
-}
-
-pub fn add_range(a: TotalRange, b: TotalRange) -> TotalRange
-    ensures { λ r. ⌜ r ≡ addCut a b ⌝ }
-{
-    let amin = a.min;
-    let amax = a.max;
-    let bmin = b.min;
-    let bmax = b.max;
-    TotalRange {
-        min: add_min(amin, bmin),
-        max: add_max(amax, bmax),
-    }
-}
-
-// A pair times a range.
-pub fn mul_range(a: Occurs, b: TotalRange) -> TotalRange
-    ensures { λ r. ⌜ r ≡ mulCut a b ⌝ }
-{
-    let amax = a.max;
-    let bmin = b.min;
-    let bmax = b.max;
-    TotalRange {
-        min: mul_min(a.min, bmin),
-        max: mul_max(amax, bmax),
-    }
-}
-
-// The lesser minimum and the greater maximum.
-pub fn span_range(a: TotalRange, b: TotalRange) -> TotalRange
-    ensures { λ r. ⌜ r ≡ spanCut a b ⌝ }
-{
-    let amin = a.min;
-    let amax = a.max;
-    let bmin = b.min;
-    let bmax = b.max;
-    TotalRange {
-        min: min_min(amin, bmin),
-        max: max_max(amax, bmax),
-    }
-}
-
 // A number of 32 bits is not too large, as a minimum and as a maximum.
 fn exact(n: u32) -> TotalMin
     ensures { λ r. ⌜ r ≡ cutMin n ⌝ }
@@ -280,13 +83,215 @@ pub fn own_range(p: Occurs) -> TotalRange
     }
 }
 
-// The total range of no items.
+// The total range of no items, for all, sequence and choice alike.
 pub fn zero() -> TotalRange
     ensures { λ r. ⌜ r ≡ cut (exactly 0) ⌝ }
 {
     TotalRange {
         min: TotalMin::Exact(0),
         max: TotalMax::Bounded(0),
+    }
+}
+
+// The whole sum and the whole product: 64 bits hold them.
+fn whole_sum(a: u32, b: u32) -> u64
+    ensures { λ r. ⌜ r ≡ a + b ⌝ }
+{
+    (a as u64) + (b as u64)
+}
+
+fn product(a: u32, b: u32) -> u64
+    ensures { λ r. ⌜ r ≡ a * b ⌝ }
+{
+    (a as u64) * (b as u64)
+}
+
+// All and sequence, the minimum: the sum of two items' ..
+fn add_min(a: TotalMin, b: TotalMin) -> TotalMin
+    ensures { λ r. ⌜ r ≡ addCutMin a b ⌝ }
+{
+    match a {
+        TotalMin::TooLarge => TotalMin::TooLarge,
+        TotalMin::Exact(m) => match b {
+            TotalMin::TooLarge => TotalMin::TooLarge,
+            TotalMin::Exact(n) => cut_min(whole_sum(m, n)),
+        },
+    }
+}
+
+// The product of two numbers of 32 bits as a minimum.
+pub fn product_min(a: u32, b: u32) -> TotalMin
+    ensures { λ r. ⌜ r ≡ cutMin (a * b) ⌝ }
+{
+    cut_min(product(a, b))
+}
+
+// .. and the group's own, a, times what its items give: zero times too large is 0.
+fn mul_min(a: u32, b: TotalMin) -> TotalMin
+    ensures { λ r. ⌜ r ≡ mulCutMin a b ⌝ }
+{
+    match b {
+        TotalMin::Exact(n) => product_min(a, n),
+        TotalMin::TooLarge => {
+            if a == 0 {
+                TotalMin::Exact(0)
+            } else {
+                TotalMin::TooLarge
+            }
+        }
+    }
+}
+
+// The sum of b and a maximum that is too large, and the greater of the two.
+fn with_too_large(b: TotalMax) -> TotalMax
+    ensures { λ r. ⌜ r ≡ withTooLarge b ⌝ }
+{
+    match b {
+        TotalMax::Bounded(_) => TotalMax::TooLarge,
+        TotalMax::TooLarge => TotalMax::TooLarge,
+        TotalMax::Unbounded => TotalMax::Unbounded,
+    }
+}
+
+// All and sequence, the maximum: the sum of two items' ..
+fn add_max(a: TotalMax, b: TotalMax) -> TotalMax
+    ensures { λ r. ⌜ r ≡ addCutMax a b ⌝ }
+{
+    match a {
+        TotalMax::Unbounded => TotalMax::Unbounded,
+        TotalMax::TooLarge => with_too_large(b),
+        TotalMax::Bounded(m) => match b {
+            TotalMax::Unbounded => TotalMax::Unbounded,
+            TotalMax::TooLarge => TotalMax::TooLarge,
+            TotalMax::Bounded(n) => cut_bounded(whole_sum(m, n)),
+        },
+    }
+}
+
+// The product of two numbers of 32 bits as a maximum.
+pub fn product_max(a: u32, b: u32) -> TotalMax
+    ensures { λ r. ⌜ r ≡ cutBounded (a * b) ⌝ }
+{
+    cut_bounded(product(a, b))
+}
+
+// a times b, where b is too large or unbounded: zero times it is 0.
+fn times_open(a: u32, b: TotalMax) -> TotalMax
+    ensures { λ r. ⌜ r ≡ timesOpen a b ⌝ }
+{
+    if a == 0 { TotalMax::Bounded(0) } else { b }
+}
+
+// a times b.
+fn times_max(a: u32, b: TotalMax) -> TotalMax
+    ensures { λ r. ⌜ r ≡ timesCutMax a b ⌝ }
+{
+    match b {
+        TotalMax::Bounded(n) => product_max(a, n),
+        TotalMax::TooLarge => times_open(a, TotalMax::TooLarge),
+        TotalMax::Unbounded => times_open(a, TotalMax::Unbounded),
+    }
+}
+
+// Unbounded times b.
+fn unbounded_times(b: TotalMax) -> TotalMax
+    ensures { λ r. ⌜ r ≡ unboundedTimes b ⌝ }
+{
+    match b {
+        TotalMax::Bounded(n) => times_open(n, TotalMax::Unbounded),
+        TotalMax::TooLarge => TotalMax::Unbounded,
+        TotalMax::Unbounded => TotalMax::Unbounded,
+    }
+}
+
+// .. and the group's own, a, times what its items give.
+fn mul_max(a: MaxOccurs, b: TotalMax) -> TotalMax
+    ensures { λ r. ⌜ r ≡ mulCutMax a b ⌝ }
+{
+    match a {
+        MaxOccurs::Bounded(m) => times_max(m, b),
+        MaxOccurs::Unbounded => unbounded_times(b),
+    }
+}
+
+// All and sequence: two items together, the minimum and then the maximum.
+pub fn add_range(a: TotalRange, b: TotalRange) -> TotalRange
+    ensures { λ r. ⌜ r ≡ addCut a b ⌝ }
+{
+    let amin = a.min;
+    let amax = a.max;
+    let bmin = b.min;
+    let bmax = b.max;
+    TotalRange {
+        min: add_min(amin, bmin),
+        max: add_max(amax, bmax),
+    }
+}
+
+// A group: its pair times what its items give, the minimum and then the maximum. A choice is multiplied in the same way.
+pub fn mul_range(a: Occurs, b: TotalRange) -> TotalRange
+    ensures { λ r. ⌜ r ≡ mulCut a b ⌝ }
+{
+    let amax = a.max;
+    let bmin = b.min;
+    let bmax = b.max;
+    TotalRange {
+        min: mul_min(a.min, bmin),
+        max: mul_max(amax, bmax),
+    }
+}
+
+fn lesser(a: u32, b: u32) -> u32
+    ensures { λ r. ⌜ r ≡ min a b ⌝ }
+{
+    if a < b { a } else { b }
+}
+
+// Choice, the minimum: the lesser one of two items'. An exact one is below one that is too large.
+fn min_min(a: TotalMin, b: TotalMin) -> TotalMin
+    ensures { λ r. ⌜ r ≡ minCutMin a b ⌝ }
+{
+    match a {
+        TotalMin::TooLarge => b,
+        TotalMin::Exact(m) => match b {
+            TotalMin::TooLarge => TotalMin::Exact(m),
+            TotalMin::Exact(n) => TotalMin::Exact(lesser(m, n)),
+        },
+    }
+}
+
+fn greater(a: u32, b: u32) -> u32
+    ensures { λ r. ⌜ r ≡ max a b ⌝ }
+{
+    if a < b { b } else { a }
+}
+
+// Choice, the maximum: the greater one of two items'.
+fn max_max(a: TotalMax, b: TotalMax) -> TotalMax
+    ensures { λ r. ⌜ r ≡ maxCutMax a b ⌝ }
+{
+    match a {
+        TotalMax::Unbounded => TotalMax::Unbounded,
+        TotalMax::TooLarge => with_too_large(b),
+        TotalMax::Bounded(m) => match b {
+            TotalMax::Unbounded => TotalMax::Unbounded,
+            TotalMax::TooLarge => TotalMax::TooLarge,
+            TotalMax::Bounded(n) => TotalMax::Bounded(greater(m, n)),
+        },
+    }
+}
+
+// Choice: two items together, the minimum and then the maximum.
+pub fn span_range(a: TotalRange, b: TotalRange) -> TotalRange
+    ensures { λ r. ⌜ r ≡ spanCut a b ⌝ }
+{
+    let amin = a.min;
+    let amax = a.max;
+    let bmin = b.min;
+    let bmax = b.max;
+    TotalRange {
+        min: min_min(amin, bmin),
+        max: max_max(amax, bmax),
     }
 }
 

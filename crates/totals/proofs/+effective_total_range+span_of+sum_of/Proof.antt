@@ -9,13 +9,15 @@ use Rattle.particle.proofs.later.Reads as later-reads
 use Rattle.particle.proofs.range.Reads as range-reads
 use Rattle.particle.proofs.record_at.Reads as record-at-reads
 use Rattle.particle.proofs.Laws.{some-bytes}
+use Rattle.totals.specs.Exact.{sum, span}
 use Rattle.totals.proofs.ranges.add_range.Reads as add-range-reads
 use Rattle.totals.proofs.ranges.mul_range.Reads as mul-range-reads
 use Rattle.totals.proofs.ranges.own_range.Reads as own-range-reads
 use Rattle.totals.proofs.ranges.span_range.Reads as span-range-reads
 use Rattle.totals.proofs.ranges.zero.Reads as zero-reads
-use Rattle.totals.proofs.Falls.{ofTree, ofRow, first-row, later-trees, later-falls, items-trees, items-fall}
-use Rattle.totals.proofs.TotalRange.{leaf-total, choice-total, ordered-total, sum-none, span-none, span-one, sum-some, span-some}
+use Rattle.totals.proofs.Falls.{ofTree, ofRow, first-row, part-first, part-falls, items-trees, items-fall}
+use Rattle.totals.proofs.TotalRange.{leaf-total, choice-total, ordered-total}
+use Rattle.totals.proofs.Gathered.{Gathered, sums, spans, span-none, sum-start, span-start, leaf-item, gathered-next, gathered-end}
 use Rattle.totals.proofs.effective_total_range.Reads as effective-total-range
 use Rattle.totals.proofs.effective_total_range.Kinds as effective-total-range-kinds
 use Rattle.totals.proofs.+effective_total_range+span_of+sum_of.Lts-effective_total_range as effective-total-range-lts
@@ -66,19 +68,61 @@ module _ (t : ℕ) where
     own-range-reads.Learnt,
     items-reads.Asked,
     items-reads.Learnt,
-    span-below,
-    span-of.Post,
-    mul-range-reads.Asked,
-    mul-range-reads.Learnt,
     sum-below,
     sum-of.Post,
+    mul-range-reads.Asked,
+    mul-range-reads.Learnt,
+    span-below,
+    span-of.Post,
   )
 
   abbrev span-calls : span-of-lts.Claims
-  span-calls = (zero-reads.Asked, zero-reads.Learnt, total-below, effective-total-range.Post, later-reads.Asked, later-reads.Learnt, span-below, span-of.Post, span-range-reads.Asked, span-range-reads.Learnt)
+  span-calls = (
+    zero-reads.Asked,
+    zero-reads.Learnt,
+    total-below,
+    effective-total-range.Post,
+    later-reads.Asked,
+    later-reads.Learnt,
+    record-at-reads.Asked,
+    record-at-reads.Learnt,
+    range-reads.Asked,
+    range-reads.Learnt,
+    own-range-reads.Asked,
+    own-range-reads.Learnt,
+    span-range-reads.Asked,
+    span-range-reads.Learnt,
+  )
 
   abbrev sum-calls : sum-of-lts.Claims
-  sum-calls = (zero-reads.Asked, zero-reads.Learnt, total-below, effective-total-range.Post, later-reads.Asked, later-reads.Learnt, sum-below, sum-of.Post, add-range-reads.Asked, add-range-reads.Learnt)
+  sum-calls = (
+    zero-reads.Asked,
+    zero-reads.Learnt,
+    later-reads.Asked,
+    later-reads.Learnt,
+    record-at-reads.Asked,
+    record-at-reads.Learnt,
+    range-reads.Asked,
+    range-reads.Learnt,
+    own-range-reads.Asked,
+    own-range-reads.Learnt,
+    add-range-reads.Asked,
+    add-range-reads.Learnt,
+    total-below,
+    effective-total-range.Post,
+  )
+
+abbrev Inv-span : span-of-lts.InvT-loop
+Inv-span t n span₀ items₀ left₀ r items left = Gathered span n t r items left
+
+abbrev μ-span : span-of-lts.MeasureT-loop
+μ-span t n span₀ items₀ left₀ r items left = left
+
+abbrev Inv-sum : sum-of-lts.InvT-loop
+Inv-sum t n sum₀ items₀ left₀ r items left = Gathered sum n t r items left
+
+abbrev μ-sum : sum-of-lts.MeasureT-loop
+μ-sum t n sum₀ items₀ left₀ r items left = left
 
 pub +effective-total-range+span-of+sum-of-spec : {M : Type 1} → statement M
 +effective-total-range+span-of+sum-of-spec =
@@ -92,27 +136,48 @@ pub +effective-total-range+span-of+sum-of-spec : {M : Type 1} → statement M
     (λ c κs. search needs)
     (λ c κs. (search items-fall, search items-trees))
     (λ c κs. search needs)
-    (λ c. search choice-total)
+    (λ c. search ordered-total)
     (λ c κs. search needs)
     (λ c κs. (search items-fall, search items-trees))
     (λ c κs. search needs)
-    (λ c. search ordered-total))
+    (λ c. search choice-total))
     (λ t. span-of-lts.spec (span-calls t) (span-at t) span-of.Post
+    Inv-span
+    μ-span
     (λ c κs. search needs)
     (λ c. search span-none)
     (λ c κs. (omega arith, search first-row))
-    (λ c. search span-one)
     (λ c κs. search first-row)
     (λ c. omega arith)
-    (λ c κs. (search later-falls, search later-trees))
+    (λ c. search span-start)
+    (λ c κs. search part-first)
+    (λ c. omega arith)
+    (λ c κs. search (some-bytes {n = 0}, part-first))
     (λ c κs. search needs)
-    (λ c. search span-some))
+    (λ c κs. search needs)
+    (λ c κs. search needs)
+    (λ c. omega arith)
+    (λ c. search (gathered-next spans, leaf-item))
+    (λ c κs. (search part-falls, search part-first))
+    (λ c κs. search needs)
+    (λ c. omega arith)
+    (λ c. search (gathered-next spans))
+    (λ c. search (gathered-end spans)))
     λ t. sum-of-lts.spec (sum-calls t) (sum-at t) sum-of.Post
+    Inv-sum
+    μ-sum
     (λ c κs. search needs)
-    (λ c. search sum-none)
-    (λ c κs. (omega arith, search first-row))
-    (λ c κs. search first-row)
+    (λ c. search sum-start)
+    (λ c κs. search part-first)
     (λ c. omega arith)
-    (λ c κs. (search later-falls, search later-trees))
+    (λ c κs. search (some-bytes {n = 0}, part-first))
     (λ c κs. search needs)
-    (λ c. search sum-some)
+    (λ c κs. search needs)
+    (λ c κs. search needs)
+    (λ c. omega arith)
+    (λ c. search (gathered-next sums, leaf-item))
+    (λ c κs. (search part-falls, search part-first))
+    (λ c κs. search needs)
+    (λ c. omega arith)
+    (λ c. search (gathered-next sums))
+    (λ c. search (gathered-end sums))

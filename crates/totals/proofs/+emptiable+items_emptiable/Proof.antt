@@ -2,14 +2,15 @@
 use Prim.Native.Nat.{ℕ, _<_}
 use native.Mathlib.Omega.{arith}
 use borrow.Author.Needs.{needs}
+use borrow.Author.Tests.{not-true, not-false}
 use borrow.Fn.Kinds.{In}
 use borrow.Fn.PlainCycle.{Measures, is, falls, and}
 use Rattle.particle.proofs.items.Reads as items-reads
 use Rattle.particle.proofs.later.Reads as later-reads
 use Rattle.particle.proofs.record_at.Reads as record-at-reads
 use Rattle.particle.proofs.Laws.{some-bytes}
-use Rattle.totals.proofs.Falls.{ofTree, ofRow, first-row, later-trees, later-falls, items-trees, items-fall}
-use Rattle.totals.proofs.Emptiness.{optional-tree, leaf-tree, empty-choice, choice-tree, ordered-tree, no-item, first-item, later-items}
+use Rattle.totals.proofs.Falls.{ofTree, ofRow, part-first, part-falls, items-trees, items-fall}
+use Rattle.totals.proofs.Emptiness.{optional-tree, leaf-tree, empty-choice, choice-tree, ordered-tree, ItemsLeft, items-start, items-end, item-decides, items-next}
 use Rattle.totals.proofs.emptiable.Reads as emptiable
 use Rattle.totals.proofs.emptiable.Kinds as emptiable-kinds
 use Rattle.totals.proofs.+emptiable+items_emptiable.Lts-emptiable as emptiable-lts
@@ -42,7 +43,13 @@ module _ (t : ℕ) where
   one-calls = (record-at-reads.Asked, record-at-reads.Learnt, items-reads.Asked, items-reads.Learnt, items-below, items-emptiable.Post)
 
   abbrev items-calls : items-emptiable-lts.Claims
-  items-calls = (one-below, emptiable.Post, later-reads.Asked, later-reads.Learnt, items-below, items-emptiable.Post)
+  items-calls = (one-below, emptiable.Post, later-reads.Asked, later-reads.Learnt)
+
+abbrev Inv-loop : items-emptiable-lts.InvT-loop
+Inv-loop t n each items₀ left₀ items left = ItemsLeft each n t items left
+
+abbrev μ-loop : items-emptiable-lts.MeasureT-loop
+μ-loop t n each items₀ left₀ items left = left
 
 pub +emptiable+items-emptiable-spec : {M : Type 1} → statement M
 +emptiable+items-emptiable-spec =
@@ -60,10 +67,13 @@ pub +emptiable+items-emptiable-spec : {M : Type 1} → statement M
     (λ c κs. (search items-fall, search items-trees))
     (λ c. search ordered-tree))
     λ t. items-emptiable-lts.spec (items-calls t) (items-at t) items-emptiable.Post
-    (λ c. search no-item)
-    (λ c κs. (omega arith, search first-row))
-    (λ c κs. search first-row)
+    Inv-loop
+    μ-loop
+    (λ c. search items-start)
+    (λ c κs. (search part-falls, search part-first))
+    (λ c. search (item-decides, not-true))
+    (λ c κs. search part-first)
     (λ c. omega arith)
-    (λ c κs. (search later-falls, search later-trees))
-    (λ c. search later-items)
-    (λ c. search first-item)
+    (λ c. omega arith)
+    (λ c. search (items-next, not-false))
+    (λ c. search items-end)
