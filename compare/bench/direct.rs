@@ -1,6 +1,6 @@
 //! From a sheet's bytes straight to the particles and tables of the original,
-//! from a chain's to its types, with no step between, as a user of the original
-//! would have to do it.
+//! from a tree's to its particle, from a chain's to its types, with no step
+//! between, as a user of the original would have to do it.
 
 use std::collections::HashMap;
 use std::slice::ChunksExact;
@@ -28,8 +28,13 @@ pub fn particles(bytes: &[u8]) -> (Particle, Particle, CompiledSchema) {
     (derived, base, schema)
 }
 
-/// A chain says nothing of its leaves but their numbers and kinds.
+/// A tree or a chain says nothing of its leaves but their numbers and kinds.
 const NO_LEAVES: [u8; LEAF_BYTES * MOST_LEAVES] = [0; LEAF_BYTES * MOST_LEAVES];
+
+/// The particle of an accepted tree.
+pub fn tree(bytes: &[u8]) -> Particle {
+    particle(&mut bytes.chunks_exact(RECORD), &NO_LEAVES)
+}
 
 /// The types of an accepted chain, each extending the one before it; and the
 /// name of the last.
@@ -38,7 +43,7 @@ pub fn types(bytes: &[u8]) -> (String, Types) {
     let levels = chain::levels(bytes);
     let mut types = HashMap::new();
     for (level, own) in (1..).zip(&levels) {
-        let own = (!own.is_empty()).then(|| particle(&mut own.chunks_exact(RECORD), &NO_LEAVES));
+        let own = (!own.is_empty()).then(|| tree(own));
         let ct = ComplexType {
             base_type: (level > 1).then(|| name(level - 1)),
             derivation: (level > 1).then_some(DerivationMethod::Extension),

@@ -8,7 +8,7 @@ use common::sheet::Sheet;
 use common::tree::Kind;
 use draw::sheets::{self, Size};
 
-use crate::worst;
+use crate::{wide, worst};
 
 /// A group, and how its sheets are chosen.
 pub struct Group {
@@ -25,15 +25,19 @@ enum Choice {
     /// One of worst.rs, by its members, the chain's kind, the elements
     /// at its end and the two tables' verdicts on them.
     Chain(usize, Kind, usize, (u8, u8)),
+    /// A group of each kind, as wide as there is room for, against a wildcard:
+    /// the rule that asks for the total range.
+    Wide,
 }
 
-pub const EVERY: [Group; 12] = [
+pub const EVERY: [Group; 13] = [
     drawn("small", 2000, Size::Small, 1..=7, 1..=8),
     drawn("middle", 500, Size::Any, 1..=24, 20..=60),
     drawn("largest", 200, Size::Any, 25..=64, 128..=255),
     drawn("few leaves", 200, Size::Any, 1..=7, 128..=255),
     drawn("many leaves", 1000, Size::Any, 25..=64, 1..=8),
     drawn("any", 2000, Size::Any, 1..=64, 1..=255),
+    Group { name: "wide, wildcard", choice: Choice::Wide },
     Group { name: "worst", choice: Choice::Longest },
     Group { name: "worst, undecided", choice: Choice::Chain(254, Kind::Choice, 1, (1, 1)) },
     Group { name: "worst, sequences", choice: Choice::Chain(254, Kind::Sequence, 1, (1, 1)) },
@@ -56,6 +60,7 @@ impl Group {
     pub fn sheets(&self, seed: u64) -> Vec<Sheet> {
         match &self.choice {
             Choice::Longest => vec![longest()],
+            Choice::Wide => [Kind::Sequence, Kind::Choice, Kind::All].map(wide::sheet).to_vec(),
             Choice::Chain(members, kind, bottom, verdicts) => {
                 vec![worst::chain(*members, *kind, *bottom, *verdicts)]
             }

@@ -1,6 +1,6 @@
-//! Measures the proved library beside the original Rust: the same sheets and
-//! chains, one program, one run; then the peers. Run it by compare/run; docs/BENCHMARK.md
-//! says what is measured. Exit status 0: measured; 1: the answers differ; 2:
+//! Measures the proved library beside the original Rust: the same sheets,
+//! chains and trees, one program, one run; then the peers. Run it by compare/run;
+//! docs/BENCHMARK.md says what is measured. Exit status 0: measured; 1: the answers differ; 2:
 //! bad usage, or a file that could not be written.
 
 mod chains;
@@ -14,6 +14,8 @@ mod peers;
 mod subjects;
 mod table;
 mod time;
+mod totals;
+mod wide;
 mod worst;
 
 use groups::Group;
@@ -43,6 +45,9 @@ fn main() {
     print_groups(wanted, &options);
     if options.wants(chains::NAME) {
         chains::print(options.seed, options.rounds);
+    }
+    if options.wants(totals::NAME) {
+        totals::print(options.seed, options.rounds);
     }
     if options.wants(PEERS)
         && let Err(error) = peers::print(options.rounds)
@@ -115,9 +120,10 @@ fn options() -> Options {
     options
 }
 
-/// The name of a group, of the chains, or of the peers.
+/// The name of a group, of the chains, of the total ranges, or of the peers.
 fn group(name: String) -> String {
-    let names = groups::EVERY.iter().map(|group| group.name).chain([chains::NAME, PEERS]);
+    let names =
+        groups::EVERY.iter().map(|group| group.name).chain([chains::NAME, totals::NAME, PEERS]);
     let names: Vec<&str> = names.collect();
     if !names.contains(&name.as_str()) {
         usage(&format!("there is no group '{name}', but: {}", names.join("; ")));

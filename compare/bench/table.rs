@@ -1,5 +1,5 @@
-//! The tables that are printed: a row for each group and mark, and one for the
-//! chains.
+//! The tables that are printed: a row for each group and mark, one for the
+//! chains, and one for each group of trees.
 
 use std::fmt;
 
@@ -8,7 +8,7 @@ use crate::time::Times;
 pub struct Row<'a> {
     pub group: &'a str,
     pub mark: &'a str,
-    /// How many sheets or chains, and their bytes in all.
+    /// How many sheets, chains or trees, and their bytes in all.
     pub count: usize,
     pub bytes: usize,
     pub times: Times,
@@ -21,7 +21,7 @@ impl Row<'_> {
     }
 }
 
-/// `inputs` are sheets or chains, `ready` what the Rust may find ready.
+/// `inputs` are sheets, chains or trees, `ready` what the Rust may find ready.
 pub fn print_head(inputs: &str, ready: &str) {
     print!("| group | mark | {inputs} | bytes ");
     print!("| Rust, ns | Rust, {ready} ready, ns | Rattle, ns ");

@@ -1,4 +1,4 @@
-//! The measuring. A round goes through the sheets or chains in batches, and each of those
+//! The measuring. A round goes through the sheets, chains or trees in batches, and each of those
 //! who are measured has its turn at a batch before the next batch comes: what
 //! else the machine does meets all of them alike. No batch is repeated at once,
 //! as the processor would then foresee its branches.
@@ -17,7 +17,7 @@ const BATCH: usize = 25;
 const ENOUGH: Duration = Duration::from_secs(4);
 const FEWEST_ROUNDS: usize = 5;
 
-/// Nanoseconds a sheet or chain, from the least and from the median time of each batch.
+/// Nanoseconds a sheet, chain or tree, from the least and from the median time of each batch.
 #[derive(Clone, Copy, Default)]
 pub struct Time {
     pub least: f64,

@@ -19,12 +19,14 @@ unsafe extern "C" {
 
 /// The total range's minimum, `TOO_LARGE` where it is too large; or `BEYOND` + N
 /// where the tree is refused with N.
+#[inline]
 pub fn total_min(tree: &[u8]) -> u64 {
     unsafe { marker_total_min(tree.as_ptr(), tree.len()) }
 }
 
 /// The total range's maximum, `TOO_LARGE` where it is too large, `BEYOND` where it
 /// is unbounded; or `BEYOND` + N where the tree is refused with N.
+#[inline]
 pub fn total_max(tree: &[u8]) -> u64 {
     unsafe { marker_total_max(tree.as_ptr(), tree.len()) }
 }
