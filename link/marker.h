@@ -33,10 +33,12 @@
  * on the language, which has no global variables; the proofs know no threads.
  *
  * STACK AND TIME. There is no heap. No contract bounds the stack: functions
- * call themselves, as deep as a tree has records, and a stack that is too small
- * ends the process. The tests, the longest sheet among them, run on a stack of
- * 128 KiB. No contract bounds the time either; the longest marking that we know
- * takes some 20 milliseconds (docs/BENCHMARK.md, 'worst, own pairs').
+ * call themselves, as deep as a tree is, and a stack that is too small ends the
+ * process. A call takes less than MARKER_MOST_STACK bytes, by the frames in the
+ * archive (link/stack) and an argument on how deep calls nest (README, 'Memory
+ * and time'); tests with deep trees run on a stack of that size and a page more.
+ * No contract bounds the time either; the longest marking that we know takes
+ * some 20 milliseconds (docs/BENCHMARK.md, 'worst, own pairs').
  */
 #ifndef MARKER_H
 #define MARKER_H
@@ -56,6 +58,8 @@ extern "C" {
 #define MARKER_MOST_CHAIN 3095   /* the longest chain that is joined */
 
 #define MARKER_MOST_LEVELS 17    /* the levels of a chain, at most */
+
+#define MARKER_MOST_STACK 24576  /* the stack that a call takes, at most; not proved */
 
 /* What marker_mark answers besides a reason. */
 #define MARKER_PASSES UINT32_C(0)

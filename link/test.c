@@ -313,6 +313,7 @@ int main(void)
     test_chains();
     test_items();
     test_longest();
+    test_stack();
     test_helpers();
     printf("%lu checks, %lu differences\n", checks, differences);
     return differences != 0;

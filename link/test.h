@@ -24,7 +24,8 @@ uint8_t *lend(void);
 /* So many bytes stand at its start, and every other byte is as before. */
 void check_lent(const char *what, const uint8_t *bytes, size_t count);
 
-/* The tests of test_chains.c. */
+/* The tests of test_chains.c, and those of test_stack.c. */
 void test_chains(void);
+void test_stack(void);
 
 #endif

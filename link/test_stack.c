@@ -1,0 +1,112 @@
+/*
+ * Deep and wide trees on a stack of the size that marker.h states and a page
+ * more, with a page below it that may not be touched: a call that takes more
+ * ends the process. These calls are not the deepest that there can be; how deep
+ * those go is the matter of link/stack.
+ */
+#define _DEFAULT_SOURCE
+#define _XOPEN_SOURCE 700
+#include <string.h>
+#include <sys/mman.h>
+#include <ucontext.h>
+#include <unistd.h>
+
+#include "test.h"
+
+enum { DEPTH = 12, WIDTH = 254 };
+enum { WILDCARD_AT = 12, DERIVED_AT = 24, AN_ELEMENT = 0, A_WILDCARD = 1 };
+
+static uint8_t sheet[DERIVED_AT + 2 * MARKER_MOST_TREE];
+static size_t length, derived_length;
+static struct {
+    uint64_t min, max, emptiable, records, mark;
+} got;
+static ucontext_t test, small;
+
+/* A leaf below groups of (0,2), which tidying leaves as they are. */
+static uint8_t *below(uint8_t *at, int kind, int groups, int leaf)
+{
+    while (groups-- > 0) {
+        at = record(at, kind, 0, 1, 0, 2);
+    }
+    return leaf == AN_ELEMENT ? record(at, ELEMENT, leaf, 0, 1, 1)
+                              : record(at, WILDCARD, leaf, 0, 0, STAR);
+}
+
+/* A group with as many elements as there is room for. */
+static uint8_t *wide(uint8_t *at, int kind)
+{
+    at = record(at, kind, 0, WIDTH, 1, 1);
+    for (int item = 0; item < WIDTH; item++) {
+        at = record(at, ELEMENT, AN_ELEMENT, 0, 0, 1);
+    }
+    return at;
+}
+
+/* What is done on the small stack: each entry with the derived tree, and the mark. */
+static void calls(void)
+{
+    static uint8_t out[MARKER_MOST_TREE];
+    const uint8_t *derived = sheet + DERIVED_AT;
+    got.min = marker_total_min(derived, derived_length);
+    got.max = marker_total_max(derived, derived_length);
+    got.emptiable = marker_emptiable(derived, derived_length);
+    got.records = marker_tidy(derived, derived_length, out, sizeof out);
+    got.mark = marker_mark(sheet, length);
+}
+
+/* Runs `calls` there; 0 where such a stack is not to be had. */
+static int on_small_stack(void)
+{
+    size_t page = (size_t)sysconf(_SC_PAGESIZE), size = MARKER_MOST_STACK + page;
+    int flags = MAP_PRIVATE | MAP_ANONYMOUS;
+    uint8_t *low = (uint8_t *)mmap(NULL, page + size, PROT_READ | PROT_WRITE, flags, -1, 0);
+    if (low == (uint8_t *)MAP_FAILED || mprotect(low, page, PROT_NONE) != 0
+        || getcontext(&small) != 0) {
+        return 0;
+    }
+    small.uc_stack.ss_sp = low + page;
+    small.uc_stack.ss_size = size;
+    small.uc_link = &test;
+    makecontext(&small, calls, 0);
+    int done = swapcontext(&test, &small) == 0;
+    munmap(low, page + size);
+    return done;
+}
+
+/* Two leaves, an element and a wildcard; the derived tree ends at `base`, the base tree at `end`. */
+static void check_passes(const char *what, const uint8_t *base, const uint8_t *end, uint64_t max)
+{
+    derived_length = (size_t)(base - sheet) - DERIVED_AT;
+    length = (size_t)(end - sheet);
+    memset(sheet, 0, DERIVED_AT);
+    sheet[0] = 2;
+    sheet[1] = (uint8_t)(derived_length / MARKER_RECORD);
+    sheet[2] = (uint8_t)((size_t)(end - base) / MARKER_RECORD);
+    sheet[4] = (uint8_t)length;
+    sheet[5] = (uint8_t)(length >> 8);
+    sheet[WILDCARD_AT] = 1;
+    memset(&got, 255, sizeof got);
+    check(what, 1, (uint64_t)on_small_stack());
+    check(what, 0, got.min);
+    check(what, max, got.max);
+    check(what, MARKER_EMPTIABLE, got.emptiable);
+    check(what, derived_length / MARKER_RECORD, got.records);
+    check(what, MARKER_PASSES, got.mark);
+}
+
+void test_stack(void)
+{
+    for (int kind = SEQUENCE; kind <= CHOICE; kind++) {
+        uint64_t deep_max = UINT64_C(1) << (DEPTH - 1);
+        uint8_t *base = below(sheet + DERIVED_AT, kind, DEPTH - 1, AN_ELEMENT);
+        check_passes("a deep tree against w", base, below(base, kind, 0, A_WILDCARD), deep_max);
+        uint8_t *end = below(base, kind, DEPTH - 1, A_WILDCARD);
+        check_passes("a deep tree against a deep one", base, end, deep_max);
+    }
+    for (int kind = SEQUENCE; kind <= ALL; kind++) {
+        uint8_t *base = wide(sheet + DERIVED_AT, kind);
+        uint8_t *end = below(base, kind, 0, A_WILDCARD);
+        check_passes("a wide tree against w", base, end, kind == CHOICE ? 1 : WIDTH);
+    }
+}
