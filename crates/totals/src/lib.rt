@@ -73,8 +73,8 @@ pub fn effective_total_range(t: &[u8]) -> TotalRange
     ranges::mul_range(own, span_of(particle::items(t), n))
 }
 
-// All and sequence: the sum of the total ranges of the first n trees of t. An element or wildcard counts by its own pair, and only for a group is there
-// a call, so that calls nest once a level.
+// All and sequence: the sum of the total ranges of the first n trees of t. An element or wildcard counts by its own pair; only a group is asked by a
+// call, so that calls nest once a level.
 fn sum_of(t: &[u8], n: usize) -> TotalRange
     requires { ⌜ Row n (now t) ⌝ }
     ensures { λ r. ⌜ r ≡ cut (sum (fold exactFrom (row n (now (t .entry))))) ⌝ }
@@ -97,8 +97,7 @@ fn sum_of(t: &[u8], n: usize) -> TotalRange
     sum
 }
 
-// Choice: the least minimum and the greatest maximum among the total ranges of the first n trees of t, in the same way. The first tree's is
-// the one to begin with.
+// Choice: the least minimum and the greatest maximum among the total ranges of the first n trees of t, in the same way, from the first tree's on.
 fn span_of(t: &[u8], n: usize) -> TotalRange
     requires { ⌜ Row n (now t) ⌝ }
     ensures { λ r. ⌜ r ≡ cut (span (fold exactFrom (row n (now (t .entry))))) ⌝ }

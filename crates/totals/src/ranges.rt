@@ -106,7 +106,7 @@ fn product(a: u32, b: u32) -> u64
     (a as u64) * (b as u64)
 }
 
-// All and sequence, the minimum: the sum of two items' ..
+// All and sequence, the minimum: the sum of two minima.
 fn add_min(a: TotalMin, b: TotalMin) -> TotalMin
     ensures { λ r. ⌜ r ≡ addCutMin a b ⌝ }
 {
@@ -126,7 +126,7 @@ pub fn product_min(a: u32, b: u32) -> TotalMin
     cut_min(product(a, b))
 }
 
-// .. and the group's own, a, times what its items give: zero times too large is 0.
+// The group's own minimum, a, times what its items give: zero times too large is 0.
 fn mul_min(a: u32, b: TotalMin) -> TotalMin
     ensures { λ r. ⌜ r ≡ mulCutMin a b ⌝ }
 {
@@ -153,7 +153,7 @@ fn with_too_large(b: TotalMax) -> TotalMax
     }
 }
 
-// All and sequence, the maximum: the sum of two items' ..
+// All and sequence, the maximum: the sum of two maxima, unbounded if one of them is.
 fn add_max(a: TotalMax, b: TotalMax) -> TotalMax
     ensures { λ r. ⌜ r ≡ addCutMax a b ⌝ }
 {
@@ -204,7 +204,7 @@ fn unbounded_times(b: TotalMax) -> TotalMax
     }
 }
 
-// .. and the group's own, a, times what its items give.
+// The group's own maximum, a, times what its items give.
 fn mul_max(a: MaxOccurs, b: TotalMax) -> TotalMax
     ensures { λ r. ⌜ r ≡ mulCutMax a b ⌝ }
 {
@@ -247,7 +247,7 @@ fn lesser(a: u32, b: u32) -> u32
     if a < b { a } else { b }
 }
 
-// Choice, the minimum: the lesser one of two items'. An exact one is below one that is too large.
+// Choice, the minimum: the lesser of two minima. An exact one is below one that is too large.
 fn min_min(a: TotalMin, b: TotalMin) -> TotalMin
     ensures { λ r. ⌜ r ≡ minCutMin a b ⌝ }
 {
@@ -266,7 +266,7 @@ fn greater(a: u32, b: u32) -> u32
     if a < b { b } else { a }
 }
 
-// Choice, the maximum: the greater one of two items'.
+// Choice, the maximum: the greater of two maxima, unbounded if one of them is.
 fn max_max(a: TotalMax, b: TotalMax) -> TotalMax
     ensures { λ r. ⌜ r ≡ maxCutMax a b ⌝ }
 {

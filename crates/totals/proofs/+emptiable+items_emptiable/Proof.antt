@@ -1,4 +1,4 @@
--- `totals::emptiable` and `items_emptiable` meet their contracts. A call goes to a shorter part, or from a row to its first tree. Assumes nothing.
+-- `totals::emptiable` and `items_emptiable` meet their contracts. A call goes to a shorter part, or from a row to one of its trees. Assumes nothing.
 use Prim.Native.Nat.{ℕ, _<_}
 use native.Mathlib.Omega.{arith}
 use borrow.Author.Needs.{needs}
