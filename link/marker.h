@@ -59,7 +59,7 @@ extern "C" {
 
 #define MARKER_MOST_LEVELS 17    /* the levels of a chain, at most */
 
-#define MARKER_MOST_STACK 24576  /* the stack that a call takes, at most; not proved */
+#define MARKER_MOST_STACK 24576  /* bytes of stack that a call takes, at most; not proved */
 
 /* What marker_mark answers besides a reason. */
 #define MARKER_PASSES UINT32_C(0)

@@ -53,6 +53,10 @@ pub const MOST_CHAIN: usize = 3095;
 /// A chain has at most so many levels.
 pub const MOST_LEVELS: usize = 17;
 
+/// A call takes at most so many bytes of stack, for whoever sizes a thread's.
+/// It is counted and tested (`link/stack`, `link/test_stack.c`), not proved.
+pub const MOST_STACK: usize = 24576;
+
 // Added to the number of a sheet's refusal.
 const REFUSED: u32 = 1000;
 
