@@ -51,15 +51,15 @@ extern "C" {
 #endif
 
 /* Lengths in bytes (docs/LAYOUT.md). */
-#define MARKER_RECORD 12         /* one record of a tree */
-#define MARKER_MOST_TREE 3060    /* the longest tree, of 255 records */
-#define MARKER_LEAST_SHEET 38    /* the shortest sheet */
-#define MARKER_MOST_SHEET 14576  /* the longest sheet */
-#define MARKER_MOST_CHAIN 3095   /* the longest chain that is joined */
+#define MARKER_RECORD 16         /* one record of a tree */
+#define MARKER_MOST_TREE 16000   /* the longest tree, of 1000 records */
+#define MARKER_LEAST_SHEET 46    /* the shortest sheet */
+#define MARKER_MOST_SHEET 40456  /* the longest sheet */
+#define MARKER_MOST_CHAIN 16035  /* the longest chain that is joined */
 
 #define MARKER_MOST_LEVELS 17    /* the levels of a chain, at most */
 
-#define MARKER_MOST_STACK 24576  /* bytes of stack that a call takes, at most; not proved */
+#define MARKER_MOST_STACK 65536  /* bytes of stack that a call takes, at most; not proved */
 
 /* What marker_mark answers besides a reason. */
 #define MARKER_PASSES UINT32_C(0)
@@ -187,7 +187,7 @@ enum marker_refusal {
     /* the caller's mistake: chain of 0 or over 17 levels, or of a length
      * unlike its counts */
     MARKER_REFUSAL_CHAIN = 15,
-    /* the examiner's mistake: joined tree over 255 records or depth 12 */
+    /* the examiner's mistake: joined tree over 1000 records or depth 12 */
     MARKER_REFUSAL_LIMIT = 16
 };
 

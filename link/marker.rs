@@ -39,23 +39,23 @@ extern "C" {
 }
 
 /// The length of a tree's record in bytes.
-pub const RECORD: usize = 12;
+pub const RECORD: usize = 16;
 
-/// The length in bytes of the longest tree, of 255 records.
-pub const MOST_TREE: usize = 3060;
+/// The length in bytes of the longest tree, of 1000 records.
+pub const MOST_TREE: usize = 16000;
 
 /// The length in bytes of the longest sheet.
-pub const MOST_SHEET: usize = 14576;
+pub const MOST_SHEET: usize = 40456;
 
 /// The length in bytes of the longest chain that is joined.
-pub const MOST_CHAIN: usize = 3095;
+pub const MOST_CHAIN: usize = 16035;
 
 /// A chain has at most so many levels.
 pub const MOST_LEVELS: usize = 17;
 
 /// A call takes at most so many bytes of stack, for whoever sizes a thread's.
 /// It is counted and tested (`link/stack`, `link/test_stack.c`), not proved.
-pub const MOST_STACK: usize = 24576;
+pub const MOST_STACK: usize = 65536;
 
 // Added to the number of a sheet's refusal.
 const REFUSED: u32 = 1000;
@@ -190,7 +190,7 @@ numbers! {
          more records"
     15 CHAIN
         "the caller's mistake: chain of 0 or over 17 levels, or of a length unlike its counts"
-    16 LIMIT "the examiner's mistake: joined tree over 255 records or depth 12"
+    16 LIMIT "the examiner's mistake: joined tree over 1000 records or depth 12"
 }
 
 /// A total range: its least and its greatest number. Both are exact: sums and
@@ -273,7 +273,7 @@ pub fn tidy(tree: &[u8], out: &mut [u8]) -> Result<usize, Refusal> {
     // SAFETY: a `&[u8]` and a `&mut [u8]` are what the header asks of the two
     // slices, and share no byte.
     let count = unsafe { marker_tidy(tree.as_ptr(), tree.len(), lent, len) };
-    // At most 255 records.
+    // At most 1000 records.
     Ok(unless_refused(count)? as usize)
 }
 
@@ -287,7 +287,7 @@ pub fn effective_particle(chain: &[u8], out: &mut [u8]) -> Result<Option<usize>,
     let (lent, len) = (out.as_mut_ptr(), out.len());
     // SAFETY: as in `tidy`.
     let count = unsafe { marker_effective_particle(chain.as_ptr(), chain.len(), lent, len) };
-    // At most 255 records.
+    // At most 1000 records.
     let count = unless_refused(count)? as usize;
     Ok(if count == 0 { None } else { Some(count) })
 }

@@ -21,25 +21,36 @@ void check(const char *what, uint64_t expected, uint64_t got)
     }
 }
 
-/* Records. */
+/* Records and contents. */
 
-enum { KIND, LEAF, COUNT, UNBOUNDED, MIN, MAX = 8 };
-
-static void put_number(uint8_t *at, uint32_t number)
+void put_16(uint8_t *at, uint32_t number)
 {
-    for (int place = 0; place < 4; place++) {
-        at[place] = (uint8_t)(number >> 8 * place);
-    }
+    at[0] = (uint8_t)number;
+    at[1] = (uint8_t)(number >> 8);
+}
+
+void put_32(uint8_t *at, uint32_t number)
+{
+    put_16(at, number);
+    put_16(at + 2, number >> 16);
+}
+
+void exchange(uint8_t *at)
+{
+    uint8_t first = at[0];
+    at[0] = at[1];
+    at[1] = first;
 }
 
 uint8_t *record(uint8_t *at, int kind, int leaf, int count, uint32_t min, int64_t max)
 {
+    memset(at, 0, MARKER_RECORD);
     at[KIND] = (uint8_t)kind;
     at[LEAF] = (uint8_t)leaf;
-    at[COUNT] = (uint8_t)count;
+    put_16(at + COUNT, (uint32_t)count);
     at[UNBOUNDED] = max == STAR;
-    put_number(at + MIN, min);
-    put_number(at + MAX, max == STAR ? 0 : (uint32_t)max);
+    put_32(at + MIN, min);
+    put_32(at + MAX, max == STAR ? 0 : (uint32_t)max);
     return at + MARKER_RECORD;
 }
 
@@ -49,6 +60,26 @@ uint8_t *element_below(uint8_t *at, int groups)
         at = record(at, CHOICE, 0, 1, 1, 1);
     }
     return record(at, ELEMENT, 0, 0, 1, 1);
+}
+
+uint8_t *row(uint8_t *at, int records)
+{
+    at = record(at, SEQUENCE, 0, records - 1, 1, 1);
+    while (--records > 0) {
+        at = record(at, ELEMENT, 0, 0, 1, 1);
+    }
+    return at;
+}
+
+size_t contents(uint8_t *sheet, int leaves, size_t derived, size_t base)
+{
+    size_t total = (size_t)TREES_AT(leaves) + (derived + base) * MARKER_RECORD;
+    memset(sheet, 0, CONTENTS_SIZE);
+    sheet[LEAVES] = (uint8_t)leaves;
+    put_16(sheet + DERIVED_COUNT, (uint32_t)derived);
+    put_16(sheet + BASE_COUNT, (uint32_t)base);
+    put_16(sheet + TOTAL, (uint32_t)total);
+    return total;
 }
 
 /* Lent buffers: `out` stands between guards; every byte has a value of its own. */
@@ -84,19 +115,19 @@ void check_lent(const char *what, const uint8_t *bytes, size_t count)
 
 /* Document 01's printed sheet. */
 static const uint8_t PRINTED[MARKER_LEAST_SHEET] = {
-    1, 1, 1, 0, 38, 0, 0, 0,            /* contents */
-    0, 0, 0, 0,                         /* leaf */
-    0, 0,                               /* tables */
-    0, 0, 0, 0, 1, 0, 0, 0, 1, 0, 0, 0, /* derived tree */
-    0, 0, 0, 0, 0, 0, 0, 0, 1, 0, 0, 0, /* base tree */
+    1, 0, 1, 0, 1, 0, 46, 0,                        /* contents */
+    0, 0, 0, 0,                                     /* leaf */
+    0, 0,                                           /* tables */
+    0, 0, 0, 0, 0, 0, 0, 0, 1, 0, 0, 0, 1, 0, 0, 0, /* derived tree */
+    0, 0, 0, 0, 0, 0, 0, 0, 0, 0, 0, 0, 1, 0, 0, 0, /* base tree */
 };
 
-enum { A_LEAF = 8, FIRST = 12, SECOND = 13, DERIVED = 14, BASE = 26 };
+enum { A_LEAF = CONTENTS_SIZE, FIRST = A_LEAF + LEAF_SIZE, SECOND = FIRST + 1 };
+enum { DERIVED = SECOND + 1, BASE = DERIVED + MARKER_RECORD };
 
-/* The mark of a copy, which must come back unchanged. */
-static uint32_t mark(const uint8_t *sheet, size_t length)
+uint32_t mark(const uint8_t *sheet, size_t length)
 {
-    static uint8_t copy[MARKER_MOST_SHEET];
+    static uint8_t copy[MARKER_MOST_SHEET + 1];
     memcpy(copy, sheet, length);
     uint32_t answer = marker_mark(copy, length);
     check("the sheet comes back unchanged", 0, (uint64_t)(memcmp(copy, sheet, length) != 0));
@@ -113,16 +144,13 @@ static uint32_t changed(int place, uint8_t value, int other_place, uint8_t other
     return mark(sheet, sizeof sheet);
 }
 
-/* The mark of elements below groups: of depth 13 with 12. */
+/* The mark of elements below groups: a depth of one more. */
 static uint32_t mark_below(int derived_groups, int base_groups)
 {
-    uint8_t sheet[MARKER_LEAST_SHEET + 2 * 12 * MARKER_RECORD];
+    uint8_t sheet[MARKER_LEAST_SHEET + 2 * MOST_DEPTH * MARKER_RECORD];
     memcpy(sheet, PRINTED, DERIVED);
-    uint8_t *end = element_below(element_below(sheet + DERIVED, derived_groups), base_groups);
-    sheet[1] = (uint8_t)(derived_groups + 1);
-    sheet[2] = (uint8_t)(base_groups + 1);
-    put_number(sheet + 4, (uint32_t)(end - sheet));
-    return mark(sheet, (size_t)(end - sheet));
+    element_below(element_below(sheet + DERIVED, derived_groups), base_groups);
+    return mark(sheet, contents(sheet, 1, (size_t)derived_groups + 1, (size_t)base_groups + 1));
 }
 
 static void test_marks(void)
@@ -135,13 +163,14 @@ static void test_marks(void)
           changed(DERIVED + UNBOUNDED, 1, DERIVED + MAX, 0));
     check("verdict 140", MARKER_LEAST_SET, changed(FIRST, 140, SECOND, 0));
     check("verdict 152", MARKER_MOST_SET, changed(SECOND, 152, FIRST, 0));
-    check("elements at depth 12", MARKER_PASSES, mark_below(11, 11));
+    check("elements at the depth", MARKER_PASSES, mark_below(MOST_DEPTH - 1, MOST_DEPTH - 1));
 }
 
 static void test_refused_sheets(void)
 {
     check("no byte", MARKER_REFUSED + MARKER_REFUSAL_CONTENTS, mark(PRINTED, 0));
-    check("37 bytes", MARKER_REFUSED + MARKER_REFUSAL_CONTENTS, mark(PRINTED, 37));
+    check("a byte less", MARKER_REFUSED + MARKER_REFUSAL_CONTENTS,
+          mark(PRINTED, MARKER_LEAST_SHEET - 1));
     check("leaf kind 2", MARKER_REFUSED + MARKER_REFUSAL_LEAF, changed(A_LEAF, 2, SECOND, 0));
     check("verdict 2", MARKER_REFUSED + MARKER_REFUSAL_VERDICT, changed(FIRST, 2, SECOND, 0));
     const int roots[2] = {BASE, DERIVED};
@@ -154,14 +183,14 @@ static void test_refused_sheets(void)
         check("an item missing", MARKER_REFUSED + first + 4,
               changed(root, SEQUENCE, root + COUNT, 1));
     }
-    check("base depth 13", MARKER_REFUSED + MARKER_REFUSAL_BASE_DEPTH, mark_below(0, 12));
-    check("derived depth 13", MARKER_REFUSED + MARKER_REFUSAL_DERIVED_DEPTH, mark_below(12, 0));
+    check("base too deep", MARKER_REFUSED + MARKER_REFUSAL_BASE_DEPTH, mark_below(0, MOST_DEPTH));
+    check("derived too deep", MARKER_REFUSED + MARKER_REFUSAL_DERIVED_DEPTH,
+          mark_below(MOST_DEPTH, 0));
 }
 
 /* Single trees. */
 
-static void check_total(const char *what, const uint8_t *tree, size_t length, uint64_t min,
-                        uint64_t max)
+void check_total(const char *what, const uint8_t *tree, size_t length, uint64_t min, uint64_t max)
 {
     check(what, min, marker_total_min(tree, length));
     check(what, max, marker_total_max(tree, length));
@@ -180,7 +209,7 @@ static void test_totals(void)
     check_total("a minimum too large", tree, sizeof tree, MARKER_TOO_LARGE, MARKER_UNBOUNDED);
     record(record(tree, SEQUENCE, 0, 1, 2, 3), ELEMENT, 0, 0, 1, STAR);
     check_total("S(2,3)[a(1,*)]", tree, sizeof tree, 2, MARKER_UNBOUNDED);
-    record(record(tree, CHOICE, 0, 1, 2, 3), WILDCARD, 63, 0, 0, 4);
+    record(record(tree, CHOICE, 0, 1, 2, 3), WILDCARD, MOST_LEAVES - 1, 0, 0, 4);
     check_total("C(2,3)[w(0,4)]", tree, sizeof tree, 0, 12);
 }
 
@@ -193,8 +222,7 @@ static void test_emptiable(void)
     check("S(2,3)[a]", MARKER_NOT_EMPTIABLE, marker_emptiable(tree, sizeof tree));
 }
 
-/* Every entry for a tree refuses it with this number, and writes nothing. */
-static void check_refused(const char *what, const uint8_t *tree, size_t length, uint32_t number)
+void check_refused(const char *what, const uint8_t *tree, size_t length, uint32_t number)
 {
     check_total(what, tree, length, MARKER_BEYOND + number, MARKER_BEYOND + number);
     check(what, number, marker_emptiable(tree, length));
@@ -206,18 +234,17 @@ static void check_refused(const char *what, const uint8_t *tree, size_t length, 
 
 static void test_refused_trees(void)
 {
-    static uint8_t tree[MARKER_MOST_TREE + MARKER_RECORD];
-    record(tree, ELEMENT, 64, 0, 1, 1);
-    check_refused("leaf 64", tree, MARKER_RECORD, MARKER_REFUSAL_DERIVED_FIELDS);
+    uint8_t tree[(MOST_DEPTH + 1) * MARKER_RECORD];
+    record(tree, ELEMENT, MOST_LEAVES, 0, 1, 1);
+    check_refused("a leaf number too large", tree, MARKER_RECORD, MARKER_REFUSAL_DERIVED_FIELDS);
     record(tree, ELEMENT, 0, 0, 2, 1);
     check_refused("a(2,1)", tree, MARKER_RECORD, MARKER_REFUSAL_DERIVED_PAIR);
     record(tree, ALL, 0, 0, 0, 2);
     check_refused("A(0,2)[]", tree, MARKER_RECORD, MARKER_REFUSAL_DERIVED_ALL_GROUP);
-    size_t length = (size_t)(element_below(tree, 12) - tree);
-    check_refused("depth 13", tree, length, MARKER_REFUSAL_DERIVED_DEPTH);
+    size_t length = (size_t)(element_below(tree, MOST_DEPTH) - tree);
+    check_refused("too deep", tree, length, MARKER_REFUSAL_DERIVED_DEPTH);
     check_refused("an item missing", tree, MARKER_RECORD, MARKER_REFUSAL_DERIVED_COUNTS);
     check_refused("a broken record", tree, length - 1, MARKER_REFUSAL_DERIVED_COUNTS);
-    check_refused("256 records", tree, sizeof tree, MARKER_REFUSAL_DERIVED_COUNTS);
     check_refused("no byte", tree, 0, MARKER_REFUSAL_DERIVED_COUNTS);
     check_refused("a null pointer of length 0", NULL, 0, MARKER_REFUSAL_DERIVED_COUNTS);
 }
@@ -245,50 +272,29 @@ static void test_tidying(void)
           (uint64_t)(memcmp(copy, tree, sizeof tree) != 0));
 }
 
-/* The items of S[a,C[b],w]: 12, 24 and 12 bytes. */
+/* The items of S[a,C[b],w]: one record, two and one. */
 static void test_items(void)
 {
+    const size_t one = MARKER_RECORD, two = 2 * MARKER_RECORD;
     uint8_t tree[5 * MARKER_RECORD];
     uint8_t *choice = record(record(tree, SEQUENCE, 0, 3, 1, 1), ELEMENT, 0, 0, 1, 1);
     uint8_t *last = record(record(choice, CHOICE, 0, 1, 1, 1), ELEMENT, 1, 0, 1, 1);
     record(last, WILDCARD, 2, 0, 0, STAR);
 
-    check("item 0", 12, marker_item(tree, sizeof tree, 0, lend(), ROOM));
-    check_lent("item 0: out", tree + MARKER_RECORD, 12);
-    check("item 1, exact", 24, marker_item(tree, sizeof tree, 1, lend(), 24));
-    check_lent("item 1, exact: out", choice, 24);
-    check("item 1, one byte short", 24, marker_item(tree, sizeof tree, 1, lend(), 23));
+    check("item 0", one, marker_item(tree, sizeof tree, 0, lend(), ROOM));
+    check_lent("item 0: out", tree + MARKER_RECORD, one);
+    check("item 1, exact", two, marker_item(tree, sizeof tree, 1, lend(), two));
+    check_lent("item 1, exact: out", choice, two);
+    check("item 1, one byte short", two, marker_item(tree, sizeof tree, 1, lend(), two - 1));
     check_lent("item 1, one byte short: out", NULL, 0);
-    check("item 1, length alone", 24, marker_item(tree, sizeof tree, 1, NULL, 0));
-    check("the last item", 12, marker_item(tree, sizeof tree, 2, lend(), ROOM));
-    check_lent("the last item: out", last, 12);
+    check("item 1, length alone", two, marker_item(tree, sizeof tree, 1, NULL, 0));
+    check("the last item", one, marker_item(tree, sizeof tree, 2, lend(), ROOM));
+    check_lent("the last item: out", last, one);
     check("one past the last", 0, marker_item(tree, sizeof tree, 3, lend(), ROOM));
     check_lent("one past the last: out", NULL, 0);
     check("the largest k", 0, marker_item(tree, sizeof tree, SIZE_MAX, lend(), ROOM));
     check("an item of a leaf", 0, marker_item(last, MARKER_RECORD, 0, lend(), ROOM));
     check_lent("an item of a leaf: out", NULL, 0);
-}
-
-/* S[a,a,..] of 255 records, alone and as both trees of the longest sheet. */
-static void test_longest(void)
-{
-    static uint8_t sheet[MARKER_MOST_SHEET], out[MARKER_MOST_TREE];
-    uint8_t *tree = sheet + MARKER_MOST_SHEET - 2 * MARKER_MOST_TREE;
-    uint8_t *end = record(tree, SEQUENCE, 0, 254, 1, 1);
-    while (end < tree + MARKER_MOST_TREE) {
-        end = record(end, ELEMENT, 0, 0, 1, 1);
-    }
-    memcpy(end, tree, MARKER_MOST_TREE);
-    sheet[0] = 64;
-    sheet[1] = sheet[2] = 255;
-    put_number(sheet + 4, MARKER_MOST_SHEET);
-
-    check("the longest sheet", MARKER_PASSES, mark(sheet, sizeof sheet));
-    check_total("the longest tree", tree, MARKER_MOST_TREE, 254, 254);
-    check("the longest tree", MARKER_NOT_EMPTIABLE, marker_emptiable(tree, MARKER_MOST_TREE));
-    check("tidy, the longest tree", 255, marker_tidy(tree, MARKER_MOST_TREE, out, sizeof out));
-    check("tidy, the longest tree: out", 0, (uint64_t)(memcmp(out, tree, sizeof out) != 0));
-    check("its last item", 12, marker_item(tree, MARKER_MOST_TREE, 253, out, sizeof out));
 }
 
 static void test_helpers(void)
@@ -312,7 +318,7 @@ int main(void)
     test_tidying();
     test_chains();
     test_items();
-    test_longest();
+    test_layout();
     test_stack();
     test_helpers();
     printf("%lu checks, %lu differences\n", checks, differences);

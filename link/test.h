@@ -8,8 +8,27 @@ enum { ELEMENT, WILDCARD, SEQUENCE, CHOICE, ALL };
 
 static const int64_t STAR = -1; /* a maximum: unbounded */
 
+/* The layout (docs/LAYOUT.md) and the limits that marker.h does not have; they
+ * stand here only. Where the fields of a record and of the contents stand: */
+enum { KIND = 0, LEAF = 1, COUNT = 2, UNBOUNDED = 4, ZEROS = 5, MIN = 8, MAX = 12 };
+enum { LEAVES = 0, ZERO = 1, DERIVED_COUNT = 2, BASE_COUNT = 4, TOTAL = 6 };
+enum { CONTENTS_SIZE = 8, LEAF_SIZE = 4, ZERO_BYTES = MIN - ZEROS };
+/* Bytes of a chain's number of levels and of a level's record count. */
+enum { LEVELS_SIZE = 1, COUNT_SIZE = 2 };
+enum { MOST_LEAVES = 64, MOST_RECORDS = 1000, MOST_DEPTH = 12 };
+
+/* Where a sheet's derived tree starts. */
+#define TREES_AT(leaves) (CONTENTS_SIZE + LEAF_SIZE * (leaves) + 2 * (leaves) * (leaves))
+
 /* Counts a check, and prints what differs. */
 void check(const char *what, uint64_t expected, uint64_t got);
+
+/* Writes a number of 16 bits, or of 32. */
+void put_16(uint8_t *at, uint32_t number);
+void put_32(uint8_t *at, uint32_t number);
+
+/* Exchanges two bytes that stand side by side. */
+void exchange(uint8_t *at);
 
 /* Writes a record and returns the place after it. */
 uint8_t *record(uint8_t *at, int kind, int leaf, int count, uint32_t min, int64_t max);
@@ -17,15 +36,35 @@ uint8_t *record(uint8_t *at, int kind, int leaf, int count, uint32_t min, int64_
 /* Writes an element below so many (1,1) groups and returns the place after it. */
 uint8_t *element_below(uint8_t *at, int groups);
 
+/* Writes S[a,a,..] of so many records and returns the place after it. */
+uint8_t *row(uint8_t *at, int records);
+
+/* Writes the contents of a sheet of so many leaves and records; its length. */
+size_t contents(uint8_t *sheet, int leaves, size_t derived, size_t base);
+
+/* Writes the number of levels and their record counts, and returns where the
+ * trees start. */
+uint8_t *levels(uint8_t *chain, int count, const int *records);
+
+/* The mark of a copy, which must come back unchanged. */
+uint32_t mark(const uint8_t *sheet, size_t length);
+
+/* Every entry for a tree refuses it with this number, and writes nothing. */
+void check_refused(const char *what, const uint8_t *tree, size_t length, uint32_t number);
+
+/* Both numbers of a tree's total range. */
+void check_total(const char *what, const uint8_t *tree, size_t length, uint64_t min, uint64_t max);
+
 /* A buffer of ROOM bytes; those in and around it have values of their own. */
-enum { ROOM = 64 };
+enum { ROOM = 6 * MARKER_RECORD };
 uint8_t *lend(void);
 
 /* So many bytes stand at its start, and every other byte is as before. */
 void check_lent(const char *what, const uint8_t *bytes, size_t count);
 
-/* The tests of test_chains.c, and those of test_stack.c. */
+/* The tests of test_chains.c, of test_layout.c and of test_stack.c. */
 void test_chains(void);
+void test_layout(void);
 void test_stack(void);
 
 #endif

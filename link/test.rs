@@ -3,11 +3,12 @@
 
 mod marker;
 mod test_chains;
+mod test_layout;
 
 use marker::Maximum::{self, Bounded, Unbounded};
 use marker::Minimum::{self, Exact};
 use marker::{copy_item, emptiable, item, mark, tidy, total_range, Mark, Range, Reason, Refusal};
-use marker::{MOST_SHEET, MOST_TREE, RECORD};
+use marker::{MOST_TREE, RECORD};
 
 const ELEMENT: u8 = 0;
 const WILDCARD: u8 = 1;
@@ -15,23 +16,62 @@ const SEQUENCE: u8 = 2;
 const CHOICE: u8 = 3;
 const ALL: u8 = 4;
 
-// Places of a record's fields.
+// The layout (docs/LAYOUT.md) and the limits that marker.rs does not have; they
+// stand here only. Places of a record's fields:
+const KIND: usize = 0;
+const LEAF: usize = 1;
 const COUNT: usize = 2;
-const MARK: usize = 3;
-const MIN: usize = 4;
-const MAX: usize = 8;
+const MARK: usize = 4;
+const ZEROS: usize = 5;
+const MIN: usize = 8;
+const MAX: usize = 12;
+
+// Places of the fields of the contents.
+const LEAVES: usize = 0;
+const ZERO: usize = 1;
+const DERIVED_COUNT: usize = 2;
+const BASE_COUNT: usize = 4;
+const TOTAL: usize = 6;
+
+const CONTENTS_SIZE: usize = 8;
+const LEAF_SIZE: usize = 4;
+const MOST_LEAVES: u8 = 64;
+const MOST_RECORDS: usize = 1000;
+const MOST_DEPTH: usize = 12;
+
+/// Writes bytes over those from a place on.
+fn put(bytes: &mut [u8], at: usize, value: &[u8]) {
+    bytes[at..at + value.len()].copy_from_slice(value);
+}
 
 /// A maximum of `None` is unbounded.
-fn record(kind: u8, leaf: u8, count: u8, min: u32, max: Option<u32>) -> [u8; RECORD] {
-    let mut bytes = [kind, leaf, count, u8::from(max.is_none()), 0, 0, 0, 0, 0, 0, 0, 0];
-    bytes[MIN..MAX].copy_from_slice(&min.to_le_bytes());
-    bytes[MAX..].copy_from_slice(&max.unwrap_or(0).to_le_bytes());
+fn record(kind: u8, leaf: u8, count: u16, min: u32, max: Option<u32>) -> [u8; RECORD] {
+    let mut bytes = [0; RECORD];
+    bytes[KIND] = kind;
+    bytes[LEAF] = leaf;
+    put(&mut bytes, COUNT, &count.to_le_bytes());
+    bytes[MARK] = u8::from(max.is_none());
+    put(&mut bytes, MIN, &min.to_le_bytes());
+    put(&mut bytes, MAX, &max.unwrap_or(0).to_le_bytes());
     bytes
 }
 
 /// A (1,1) record.
-fn once(kind: u8, leaf: u8, count: u8) -> [u8; RECORD] {
+fn once(kind: u8, leaf: u8, count: u16) -> [u8; RECORD] {
     record(kind, leaf, count, 1, Some(1))
+}
+
+/// A sheet of so many elements, all of its verdicts ok, and these trees.
+fn sheet(leaves: u8, derived: &[u8], base: &[u8]) -> Vec<u8> {
+    let n = usize::from(leaves);
+    let mut bytes = vec![0; CONTENTS_SIZE + n * LEAF_SIZE + 2 * n * n];
+    bytes.extend([derived, base].concat());
+    let (total, d, b) = (bytes.len(), derived.len() / RECORD, base.len() / RECORD);
+    bytes[LEAVES] = leaves;
+    for (at, number) in [(DERIVED_COUNT, d), (BASE_COUNT, b), (TOTAL, total)] {
+        put(&mut bytes, at, &(number as u16).to_le_bytes());
+    }
+    bytes
 }
 
 /// An element below so many (1,1) groups.
@@ -42,18 +82,18 @@ fn element_below(groups: usize) -> Vec<u8> {
 }
 
 /// Document 01's printed sheet, and where its parts begin.
-const PRINTED: [u8; 38] = [
-    1, 1, 1, 0, 38, 0, 0, 0, // contents
+const PRINTED: [u8; 46] = [
+    1, 0, 1, 0, 1, 0, 46, 0, // contents
     0, 0, 0, 0, // leaf
     0, 0, // tables
-    0, 0, 0, 0, 1, 0, 0, 0, 1, 0, 0, 0, // derived tree
-    0, 0, 0, 0, 0, 0, 0, 0, 1, 0, 0, 0, // base tree
+    0, 0, 0, 0, 0, 0, 0, 0, 1, 0, 0, 0, 1, 0, 0, 0, // derived tree
+    0, 0, 0, 0, 0, 0, 0, 0, 0, 0, 0, 0, 1, 0, 0, 0, // base tree
 ];
-const LEAF: usize = 8;
-const FIRST: usize = 12;
-const SECOND: usize = 13;
-const DERIVED: usize = 14;
-const BASE: usize = 26;
+const A_LEAF: usize = CONTENTS_SIZE;
+const FIRST: usize = A_LEAF + LEAF_SIZE;
+const SECOND: usize = FIRST + 1;
+const DERIVED: usize = SECOND + 1;
+const BASE: usize = DERIVED + RECORD;
 
 /// The mark of the printed sheet after changes, each a place and its value.
 fn changed(changes: &[(usize, u8)]) -> Mark {
@@ -67,16 +107,9 @@ fn changed(changes: &[(usize, u8)]) -> Mark {
     answer
 }
 
-/// The mark of elements below groups: of depth 13 with 12.
+/// The mark of elements below groups: a depth of one more.
 fn mark_below(derived_groups: usize, base_groups: usize) -> Mark {
-    let mut sheet = PRINTED[..DERIVED].to_vec();
-    sheet.extend(element_below(derived_groups));
-    sheet.extend(element_below(base_groups));
-    sheet[1] = derived_groups as u8 + 1;
-    sheet[2] = base_groups as u8 + 1;
-    let total = sheet.len() as u32;
-    sheet[4..8].copy_from_slice(&total.to_le_bytes());
-    mark(&sheet)
+    mark(&sheet(1, &element_below(derived_groups), &element_below(base_groups)))
 }
 
 #[test]
@@ -87,7 +120,7 @@ fn marks() {
     assert_eq!(changed(&[(DERIVED + MAX, 2)]), Mark::Fails(Reason::MAX_ABOVE));
     let unbounded = changed(&[(DERIVED + MARK, 1), (DERIVED + MAX, 0)]);
     assert_eq!(unbounded, Mark::Fails(Reason::MAX_UNBOUNDED));
-    assert_eq!(mark_below(11, 11), Mark::Passes);
+    assert_eq!(mark_below(MOST_DEPTH - 1, MOST_DEPTH - 1), Mark::Passes);
 }
 
 #[test]
@@ -103,14 +136,13 @@ fn set_by_the_paper() {
 #[test]
 fn refused_sheets() {
     assert_eq!(mark(&[]), Mark::Refused(Refusal::CONTENTS));
-    assert_eq!(mark(&PRINTED[..37]), Mark::Refused(Refusal::CONTENTS));
-    assert_eq!(mark(&[0; MOST_SHEET + 1]), Mark::Refused(Refusal::CONTENTS));
-    assert_eq!(changed(&[(LEAF, 2)]), Mark::Refused(Refusal::LEAF));
+    assert_eq!(mark(&PRINTED[..PRINTED.len() - 1]), Mark::Refused(Refusal::CONTENTS));
+    assert_eq!(changed(&[(A_LEAF, 2)]), Mark::Refused(Refusal::LEAF));
     assert_eq!(changed(&[(FIRST, 2)]), Mark::Refused(Refusal::VERDICT));
 }
 
 /// The five refusals of the tree at `root`: fields, pair, all-group, counts;
-/// depth is that of the sheet with 12 groups above the element.
+/// depth is that of the sheet with an element one level too deep.
 fn refused_trees(root: usize, deep: Mark, expected: [Refusal; 5]) {
     let [fields, pair, all_group, depth, counts] = expected.map(Mark::Refused);
     assert_eq!(changed(&[(root, 5)]), fields);
@@ -129,7 +161,7 @@ fn refused_base_trees() {
         Refusal::BASE_DEPTH,
         Refusal::BASE_COUNTS,
     ];
-    refused_trees(BASE, mark_below(0, 12), expected);
+    refused_trees(BASE, mark_below(0, MOST_DEPTH), expected);
 }
 
 #[test]
@@ -141,7 +173,7 @@ fn refused_derived_trees() {
         Refusal::DERIVED_DEPTH,
         Refusal::DERIVED_COUNTS,
     ];
-    refused_trees(DERIVED, mark_below(12, 0), expected);
+    refused_trees(DERIVED, mark_below(MOST_DEPTH, 0), expected);
 }
 
 /// Every function for a tree refuses it so; nothing is written.
@@ -157,13 +189,12 @@ fn refused_alone(tree: &[u8], refusal: Refusal) {
 
 #[test]
 fn refused_trees_alone() {
-    refused_alone(&once(ELEMENT, 64, 0), Refusal::DERIVED_FIELDS);
+    refused_alone(&once(ELEMENT, MOST_LEAVES, 0), Refusal::DERIVED_FIELDS);
     refused_alone(&record(ELEMENT, 0, 0, 2, Some(1)), Refusal::DERIVED_PAIR);
     refused_alone(&record(ALL, 0, 0, 0, Some(2)), Refusal::DERIVED_ALL_GROUP);
-    refused_alone(&element_below(12), Refusal::DERIVED_DEPTH);
+    refused_alone(&element_below(MOST_DEPTH), Refusal::DERIVED_DEPTH);
     refused_alone(&once(SEQUENCE, 0, 1), Refusal::DERIVED_COUNTS);
-    refused_alone(&element_below(3)[..47], Refusal::DERIVED_COUNTS);
-    refused_alone(&[0; MOST_TREE + RECORD], Refusal::DERIVED_COUNTS);
+    refused_alone(&element_below(3)[..4 * RECORD - 1], Refusal::DERIVED_COUNTS);
     refused_alone(&[], Refusal::DERIVED_COUNTS);
 }
 
@@ -213,7 +244,7 @@ fn tidying() {
     let groups = [record(SEQUENCE, 0, 1, 2, Some(3)), once(CHOICE, 0, 2)].concat();
     let tree = [groups, items.clone()].concat();
     let tidied = [record(CHOICE, 0, 2, 2, Some(3)).to_vec(), items].concat();
-    for length in [tree.len(), tree.len() + 1, 64] {
+    for length in [tree.len(), tree.len() + 1, tree.len() + RECORD] {
         let mut out = pattern(length);
         assert_eq!(tidy(&tree, &mut out), Ok(3));
         assert_eq!(out, starting_with(&tidied, length));
@@ -240,7 +271,7 @@ fn of_three_items() -> Vec<u8> {
 #[test]
 fn items() {
     let tree = of_three_items();
-    let places = [12..24, 24..48, 48..60];
+    let places = [RECORD..2 * RECORD, 2 * RECORD..4 * RECORD, 4 * RECORD..5 * RECORD];
     for (k, place) in places.iter().enumerate() {
         let found = item(&tree, k).expect("an item");
         assert_eq!(found.as_ptr_range(), tree[place.clone()].as_ptr_range(), "item {k}");
@@ -256,7 +287,7 @@ fn copied_items() {
     let tree = of_three_items();
     for k in 0..3 {
         let expected = item(&tree, k).expect("an item");
-        for length in [expected.len(), expected.len() + 1, 64] {
+        for length in [expected.len(), expected.len() + 1, tree.len()] {
             let mut out = pattern(length);
             assert_eq!(copy_item(&tree, k, &mut out), expected.len());
             assert_eq!(out, starting_with(expected, length));
@@ -265,28 +296,15 @@ fn copied_items() {
         assert_eq!(copy_item(&tree, k, &mut short), expected.len());
         assert_eq!(short, pattern(expected.len() - 1));
     }
-    let mut out = pattern(64);
+    let mut out = pattern(tree.len());
     assert_eq!(copy_item(&tree, 3, &mut out), 0);
-    assert_eq!(out, pattern(64));
+    assert_eq!(out, pattern(tree.len()));
 }
 
 /// S[a,a,..] of so many records.
 fn row(records: usize) -> Vec<u8> {
     let items = records - 1;
-    [once(SEQUENCE, 0, items as u8).to_vec(), once(ELEMENT, 0, 0).repeat(items)].concat()
-}
-
-/// A tree of 255 records, alone and as both trees of the longest sheet.
-#[test]
-fn longest() {
-    let tree = row(255);
-    let leaves_and_tables = vec![0; 64 * 4 + 2 * 64 * 64];
-    let contents = vec![64, 255, 255, 0, 0xf0, 0x38, 0, 0];
-    let sheet = [contents, leaves_and_tables, tree.clone(), tree.clone()].concat();
-    assert_eq!((tree.len(), sheet.len()), (MOST_TREE, MOST_SHEET));
-    assert_eq!(mark(&sheet), Mark::Passes);
-    assert_eq!(tidy(&tree, &mut [0; MOST_TREE]), Ok(255));
-    assert_eq!(item(&tree, 253), Some(&tree[MOST_TREE - RECORD..]));
+    [once(SEQUENCE, 0, items as u16).to_vec(), once(ELEMENT, 0, 0).repeat(items)].concat()
 }
 
 #[test]

@@ -6,22 +6,17 @@
 
 #include "test.h"
 
-enum { MOST_RECORDS = 255, MOST_DEPTH = 12 };
-
 /* Writes a (1,1) element and returns the place after it. */
 static uint8_t *element(uint8_t *at, int leaf)
 {
     return record(at, ELEMENT, leaf, 0, 1, 1);
 }
 
-/* Writes the number of levels and their record counts, and returns where the
- * trees start. */
-static uint8_t *levels(uint8_t *chain, int count, const int *records)
+uint8_t *levels(uint8_t *chain, int count, const int *records)
 {
     *chain++ = (uint8_t)count;
-    for (int level = 0; level < count; level++) {
-        *chain++ = (uint8_t)records[level];
-        *chain++ = (uint8_t)(records[level] >> 8);
+    for (int level = 0; level < count; level++, chain += COUNT_SIZE) {
+        put_16(chain, (uint32_t)records[level]);
     }
     return chain;
 }
@@ -53,7 +48,8 @@ static void check_chain(const char *what, const uint8_t *chain, size_t length, u
 static void test_joining(void)
 {
     static const int counts[4] = {1, 0, 1, 1};
-    uint8_t chain[1 + 4 * 2 + 3 * MARKER_RECORD], copy[sizeof chain], joined[5 * MARKER_RECORD];
+    uint8_t chain[LEVELS_SIZE + 4 * COUNT_SIZE + 3 * MARKER_RECORD], copy[sizeof chain];
+    uint8_t joined[5 * MARKER_RECORD];
     uint8_t *trees = levels(chain, 4, counts);
     record(element(element(trees, 0), 1), ELEMENT, 2, 0, 0, 1);
     memcpy(copy, chain, sizeof chain);
@@ -78,9 +74,10 @@ static void test_joining(void)
 static void test_one_or_none(void)
 {
     static const int absent[MARKER_MOST_LEVELS] = {0}, third[3] = {0, 0, 2};
-    uint8_t chain[1 + 2 * MARKER_MOST_LEVELS + 2 * MARKER_RECORD];
+    uint8_t chain[LEVELS_SIZE + COUNT_SIZE * MARKER_MOST_LEVELS + 2 * MARKER_RECORD];
     uint8_t *tree = levels(chain, 3, third);
-    size_t length = (size_t)(element(record(tree, CHOICE, 0, 1, 0, STAR), 63) - chain);
+    uint8_t *item = record(tree, CHOICE, 0, 1, 0, STAR);
+    size_t length = (size_t)(element(item, MOST_LEAVES - 1) - chain);
     check("a lone tree", 2, marker_effective_particle(chain, length, lend(), 2 * MARKER_RECORD));
     check_lent("a lone tree: out", tree, 2 * MARKER_RECORD);
 
@@ -97,7 +94,7 @@ static void test_one_or_none(void)
 static void test_refused_chains(void)
 {
     static const int none[1] = {0}, one[1] = {1};
-    static uint8_t chain[1 + (MARKER_MOST_LEVELS + 1) * (2 + MARKER_RECORD)];
+    static uint8_t chain[LEVELS_SIZE + (MARKER_MOST_LEVELS + 1) * (COUNT_SIZE + MARKER_RECORD)];
     check_chain("a null chain", NULL, 0, MARKER_REFUSAL_CHAIN);
     check_chain("0 levels", chain, 1, MARKER_REFUSAL_CHAIN);
     size_t length = elements(chain, MARKER_MOST_LEVELS + 1);
@@ -106,10 +103,12 @@ static void test_refused_chains(void)
     check_chain("counts cut off", chain, 2, MARKER_REFUSAL_CHAIN);
     check_chain("a byte after no tree", chain, 4, MARKER_REFUSAL_CHAIN);
     /* Before the tree's own refusal. */
-    length = (size_t)(record(levels(chain, 1, one), ELEMENT, 64, 0, 1, 1) - chain);
+    length = (size_t)(record(levels(chain, 1, one), ELEMENT, MOST_LEAVES, 0, 1, 1) - chain);
     check_chain("a tree cut off", chain, length - 1, MARKER_REFUSAL_CHAIN);
     check_chain("a byte more", chain, length + 1, MARKER_REFUSAL_CHAIN);
     check_chain("whole", chain, length, MARKER_REFUSAL_DERIVED_FIELDS);
+    exchange(chain + LEVELS_SIZE);
+    check_chain("a count exchanged", chain, length, MARKER_REFUSAL_CHAIN);
 }
 
 static void test_refused_trees_of_chains(void)
@@ -120,6 +119,10 @@ static void test_refused_trees_of_chains(void)
     uint8_t *second = element(levels(chain, 2, two), 0);
     size_t length = (size_t)(record(second, ELEMENT, 0, 0, 2, 1) - chain);
     check_chain("a(2,1) second", chain, length, MARKER_REFUSAL_DERIVED_PAIR);
+    for (int place = 0; place < ZERO_BYTES; place++) {
+        element(element(levels(chain, 2, two), 0), 0)[ZEROS + place - MARKER_RECORD] = 1;
+        check_chain("a zero byte", chain, length, MARKER_REFUSAL_DERIVED_FIELDS);
+    }
     record(levels(chain, 2, two), ALL, 0, 0, 0, 2);
     check_chain("A(0,2)[] first", chain, length, MARKER_REFUSAL_DERIVED_ALL_GROUP);
     record(levels(chain, 2, two), SEQUENCE, 0, 1, 1, 1);
@@ -133,16 +136,6 @@ static void test_refused_trees_of_chains(void)
     check_chain("joined too deep", chain, length, MARKER_REFUSAL_LIMIT);
     chain[length - MARKER_RECORD] = 5;
     check_chain("kind 5 in it", chain, length, MARKER_REFUSAL_DERIVED_FIELDS);
-}
-
-/* Writes S[a,a,..] of so many records and returns the place after it. */
-static uint8_t *row(uint8_t *at, int records)
-{
-    at = record(at, SEQUENCE, 0, records - 1, 1, 1);
-    while (--records > 0) {
-        at = element(at, 0);
-    }
-    return at;
 }
 
 /* Chains at the limits of levels, records and depth. */
@@ -162,7 +155,7 @@ static void test_longest_chains(void)
     check("joined to the depth: its total", MOST_DEPTH,
           marker_total_min(out, count * MARKER_RECORD));
 
-    records[0] = 200;
+    records[0] = 300;
     records[1] = MOST_RECORDS - 1 - records[0];
     length = (size_t)(row(row(levels(chain, 2, records), records[0]), records[1]) - chain);
     check("joined to the records", MOST_RECORDS,

@@ -4,10 +4,7 @@
 use crate::marker::{effective_particle, Refusal};
 use crate::marker::{MOST_CHAIN, MOST_LEVELS, MOST_TREE, RECORD};
 use crate::{element_below, once, pattern, record, row, starting_with};
-use crate::{ALL, ELEMENT, SEQUENCE, WILDCARD};
-
-const MOST_RECORDS: usize = 255;
-const MOST_DEPTH: u8 = 12;
+use crate::{ALL, ELEMENT, MOST_DEPTH, MOST_LEAVES, MOST_RECORDS, SEQUENCE, WILDCARD, ZEROS};
 
 /// A chain of these levels; an empty one is absent.
 fn chain(levels: &[Vec<u8>]) -> Vec<u8> {
@@ -20,8 +17,8 @@ fn chain(levels: &[Vec<u8>]) -> Vec<u8> {
 }
 
 /// A chain of so many elements, of the leaves 0, 1, ..
-fn elements(count: u8) -> Vec<Vec<u8>> {
-    (0..count).map(|leaf| once(ELEMENT, leaf, 0).to_vec()).collect()
+fn elements(count: usize) -> Vec<Vec<u8>> {
+    (0..count).map(|leaf| once(ELEMENT, leaf as u8, 0).to_vec()).collect()
 }
 
 /// a + - + b + c becomes S[S[a,b],c].
@@ -75,38 +72,41 @@ fn refused_chains() {
     refused_chain(&[1, 0], Refusal::CHAIN);
     refused_chain(&good[..good.len() - 1], Refusal::CHAIN);
     refused_chain(&[&good[..], &[0]].concat(), Refusal::CHAIN);
-    refused_chain(&chain(&elements(MOST_LEVELS as u8 + 1)), Refusal::CHAIN);
+    refused_chain(&chain(&elements(MOST_LEVELS + 1)), Refusal::CHAIN);
     refused_chain(&chain(&elements(MOST_DEPTH + 1)), Refusal::LIMIT);
+    let mut zero_byte = once(ELEMENT, 0, 0).to_vec();
+    zero_byte[ZEROS] = 1;
     let trees = [
-        (once(ELEMENT, 64, 0).to_vec(), Refusal::DERIVED_FIELDS),
+        (once(ELEMENT, MOST_LEAVES, 0).to_vec(), Refusal::DERIVED_FIELDS),
+        (zero_byte, Refusal::DERIVED_FIELDS),
         (record(ELEMENT, 0, 0, 2, Some(1)).to_vec(), Refusal::DERIVED_PAIR),
         (record(ALL, 0, 0, 0, Some(2)).to_vec(), Refusal::DERIVED_ALL_GROUP),
-        (element_below(MOST_DEPTH.into()), Refusal::DERIVED_DEPTH),
+        (element_below(MOST_DEPTH), Refusal::DERIVED_DEPTH),
         (once(SEQUENCE, 0, 1).to_vec(), Refusal::DERIVED_COUNTS),
-        (vec![0; MOST_TREE + RECORD], Refusal::DERIVED_COUNTS),
+        (row(MOST_RECORDS + 1), Refusal::DERIVED_COUNTS),
     ];
     for (tree, refusal) in trees {
         let mut levels = elements(MOST_DEPTH);
         levels.push(tree);
         refused_chain(&chain(&levels), refusal);
-        levels.push(once(WILDCARD, 64, 0).to_vec());
+        levels.push(once(WILDCARD, MOST_LEAVES, 0).to_vec());
         refused_chain(&chain(&levels), refusal);
     }
 }
 
 #[test]
 fn chains_at_the_limits() {
-    let mut out = [0; MOST_TREE];
+    let mut out = vec![0; MOST_TREE];
     let mut longest = vec![vec![]; MOST_LEVELS];
     longest[MOST_LEVELS - 1] = row(MOST_RECORDS);
     let longest = chain(&longest);
     assert_eq!(longest.len(), MOST_CHAIN);
     assert_eq!(effective_particle(&longest, &mut out), Ok(Some(MOST_RECORDS)));
-    assert_eq!(out, row(MOST_RECORDS)[..]);
-    let (one, other) = (row(200), row(MOST_RECORDS - 1 - 200));
+    assert_eq!(out, row(MOST_RECORDS));
+    let (one, other) = (row(300), row(MOST_RECORDS - 1 - 300));
     let joined = effective_particle(&chain(&[one.clone(), other]), &mut out);
     assert_eq!(joined, Ok(Some(MOST_RECORDS)));
-    refused_chain(&chain(&[one, row(MOST_RECORDS - 200)]), Refusal::LIMIT);
-    let records = 2 * usize::from(MOST_DEPTH) - 1;
+    refused_chain(&chain(&[one, row(MOST_RECORDS - 300)]), Refusal::LIMIT);
+    let records = 2 * MOST_DEPTH - 1;
     assert_eq!(effective_particle(&chain(&elements(MOST_DEPTH)), &mut out), Ok(Some(records)));
 }

@@ -13,13 +13,16 @@
 
 #include "test.h"
 
-enum { DEPTH = 12, WIDTH = 254 };
-enum { WILDCARD_AT = 12, DERIVED_AT = 24, AN_ELEMENT = 0, A_WILDCARD = 1 };
+/* How many items a root may have, and a group below all the others. */
+enum { WIDTH = MOST_RECORDS - 1, WIDTH_BELOW = MOST_RECORDS - (MOST_DEPTH - 1) };
+enum { WILDCARD_AT = CONTENTS_SIZE + LEAF_SIZE, DERIVED_AT = TREES_AT(2) };
+enum { AN_ELEMENT = 0, A_WILDCARD = 1 };
 
 static uint8_t sheet[DERIVED_AT + 2 * MARKER_MOST_TREE];
-static size_t length, derived_length;
+static uint8_t chain[MARKER_MOST_CHAIN];
+static size_t length, derived_length, chain_length;
 static struct {
-    uint64_t min, max, emptiable, records, mark;
+    uint64_t min, max, emptiable, records, joined, item, mark;
 } got;
 static ucontext_t test, small;
 
@@ -33,14 +36,23 @@ static uint8_t *below(uint8_t *at, int kind, int groups, int leaf)
                               : record(at, WILDCARD, leaf, 0, 0, STAR);
 }
 
-/* A group with as many elements as there is room for. */
-static uint8_t *wide(uint8_t *at, int kind)
+/* A group with so many elements. */
+static uint8_t *wide(uint8_t *at, int kind, int items, int64_t max)
 {
-    at = record(at, kind, 0, WIDTH, 1, 1);
-    for (int item = 0; item < WIDTH; item++) {
+    at = record(at, kind, 0, items, 0, max);
+    while (items-- > 0) {
         at = record(at, ELEMENT, AN_ELEMENT, 0, 0, 1);
     }
     return at;
+}
+
+/* As many records as there may be at as many levels, the last of them wide. */
+static uint8_t *wide_below(uint8_t *at, int kind)
+{
+    for (int level = 1; level < MOST_DEPTH - 1; level++) {
+        at = record(at, kind, 0, 1, 0, 2);
+    }
+    return wide(at, kind, WIDTH_BELOW, 2);
 }
 
 /* What is done on the small stack: each entry with the derived tree, and the mark. */
@@ -52,6 +64,8 @@ static void calls(void)
     got.max = marker_total_max(derived, derived_length);
     got.emptiable = marker_emptiable(derived, derived_length);
     got.records = marker_tidy(derived, derived_length, out, sizeof out);
+    got.joined = marker_effective_particle(chain, chain_length, out, sizeof out);
+    got.item = marker_item(derived, derived_length, 0, out, sizeof out);
     got.mark = marker_mark(sheet, length);
 }
 
@@ -74,39 +88,49 @@ static int on_small_stack(void)
     return done;
 }
 
-/* Two leaves, an element and a wildcard; the derived tree ends at `base`, the base tree at `end`. */
+/* Two leaves, an element and a wildcard; the derived tree ends at `base`, the base tree at `end`.
+ * The derived root has one group or many elements. */
 static void check_passes(const char *what, const uint8_t *base, const uint8_t *end, uint64_t max)
 {
-    derived_length = (size_t)(base - sheet) - DERIVED_AT;
-    length = (size_t)(end - sheet);
+    const uint8_t *derived = sheet + DERIVED_AT;
+    derived_length = (size_t)(base - derived);
+    const int records[1] = {(int)(derived_length / MARKER_RECORD)};
     memset(sheet, 0, DERIVED_AT);
-    sheet[0] = 2;
-    sheet[1] = (uint8_t)(derived_length / MARKER_RECORD);
-    sheet[2] = (uint8_t)((size_t)(end - base) / MARKER_RECORD);
-    sheet[4] = (uint8_t)length;
-    sheet[5] = (uint8_t)(length >> 8);
+    length = contents(sheet, 2, (size_t)records[0], (size_t)(end - base) / MARKER_RECORD);
     sheet[WILDCARD_AT] = 1;
+    uint8_t *tree = levels(chain, 1, records);
+    memcpy(tree, derived, derived_length);
+    chain_length = (size_t)(tree - chain) + derived_length;
     memset(&got, 255, sizeof got);
     check(what, 1, (uint64_t)on_small_stack());
     check(what, 0, got.min);
     check(what, max, got.max);
     check(what, MARKER_EMPTIABLE, got.emptiable);
-    check(what, derived_length / MARKER_RECORD, got.records);
+    check(what, (uint64_t)records[0], got.records);
+    check(what, (uint64_t)records[0], got.joined);
+    check(what, derived[COUNT] == 1 ? derived_length - MARKER_RECORD : MARKER_RECORD, got.item);
     check(what, MARKER_PASSES, got.mark);
 }
 
 void test_stack(void)
 {
     for (int kind = SEQUENCE; kind <= CHOICE; kind++) {
-        uint64_t deep_max = UINT64_C(1) << (DEPTH - 1);
-        uint8_t *base = below(sheet + DERIVED_AT, kind, DEPTH - 1, AN_ELEMENT);
+        uint64_t deep_max = UINT64_C(1) << (MOST_DEPTH - 1);
+        uint8_t *base = below(sheet + DERIVED_AT, kind, MOST_DEPTH - 1, AN_ELEMENT);
         check_passes("a deep tree against w", base, below(base, kind, 0, A_WILDCARD), deep_max);
-        uint8_t *end = below(base, kind, DEPTH - 1, A_WILDCARD);
+        uint8_t *end = below(base, kind, MOST_DEPTH - 1, A_WILDCARD);
         check_passes("a deep tree against a deep one", base, end, deep_max);
+        uint64_t both_max = kind == CHOICE ? deep_max : deep_max * WIDTH_BELOW;
+        base = wide_below(sheet + DERIVED_AT, kind);
+        check_passes("a deep and wide tree against w", base, below(base, kind, 0, A_WILDCARD),
+                     both_max);
+        check_passes("two deep and wide trees", base, wide_below(base, kind), both_max);
     }
     for (int kind = SEQUENCE; kind <= ALL; kind++) {
-        uint8_t *base = wide(sheet + DERIVED_AT, kind);
+        uint8_t *base = wide(sheet + DERIVED_AT, kind, WIDTH, 1);
         uint8_t *end = below(base, kind, 0, A_WILDCARD);
         check_passes("a wide tree against w", base, end, kind == CHOICE ? 1 : WIDTH);
+        end = wide(base, kind, WIDTH, 1);
+        check_passes("two wide trees", base, end, kind == CHOICE ? 1 : WIDTH);
     }
 }

@@ -136,9 +136,10 @@ def with_joined(text, paper, tree):
     """The paper's text with its joined tree in the chain's place."""
     lines = text.split("\n")
     first, last = paper.chain.first, paper.chain.last
-    line = lines[first.line - 1]
-    before, after = line[:first.column - 1], line[last.column - 1 + len(last.text):]
-    lines[first.line - 1] = before + tree_text(tree, paper.names) + after
+    before = lines[first.line - 1][:first.column - 1]
+    after = lines[last.line - 1][last.column - 1 + len(last.text):]
+    whole = printed.folded(tree_text(tree, paper.names))
+    lines[first.line - 1:last.line] = [before + whole + after]
     return "\n".join(lines).rstrip("\n") + "\n"
 
 

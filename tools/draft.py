@@ -43,8 +43,7 @@ def read(text, alone=False):
     """What the text says; ``alone`` lets it leave out the derived tree. Raises
     PaperError at the first fault."""
     lines = text.split("\n")
-    scanners = [Scanner(line, number) for number, line in enumerate(lines, 1)]
-    scanners = [scanner for scanner in scanners if not scanner.is_blank]
+    scanners = scanned(lines)
     if not scanners:
         end = Token("", len(lines), 1)
         wanted = f"a chain, or {TWO_TREES}" if alone else TWO_TREES
@@ -59,6 +58,17 @@ def read(text, alone=False):
     base = base._replace(levels=[renumbered(tree, order) for tree in base.levels])
     return Paper(list(draft.numbers), draft.leaves, draft.first, draft.second,
                  renumbered(derived, order), base)
+
+
+def scanned(lines):
+    """The statements: each is a line, and those after it while a bracket is open."""
+    scanners = []
+    for number, line in enumerate(lines, 1):
+        if scanners and scanners[-1].opened > 0:
+            scanners[-1].go_on(line, number)
+        else:
+            scanners.append(Scanner(line, number))
+    return [scanner for scanner in scanners if not scanner.is_blank]
 
 
 def read_trees(scanner, names, alone):

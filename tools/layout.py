@@ -1,15 +1,16 @@
-"""The bytes of an exam sheet (document 01, 'The exam sheet') and of a chain
-(document 02 §1). The layout of sheet, leaf, record and chain stands here only.
-Numbers are little-endian."""
+"""The bytes of an exam sheet (document 01, 'The exam sheet', with the records of
+document 02 §4) and of a chain (document 02 §1). The layout of sheet, leaf,
+record and chain stands here only. Numbers are little-endian."""
 
+import re
 import struct
 from typing import NamedTuple
 
 from sheet import Leaf
 
-CONTENTS = struct.Struct("<BBBBI")
+CONTENTS = struct.Struct("<BBHHH")
 LEAF = struct.Struct("<BBH")
-RECORD = struct.Struct("<BBBBII")
+RECORD = struct.Struct("<BBHB3sII")
 # A chain's number of levels, and the record count of a level.
 CHAIN = struct.Struct("<B")
 LEVEL = struct.Struct("<H")
@@ -17,9 +18,9 @@ LEVEL = struct.Struct("<H")
 
 class Contents(NamedTuple):
     leaves: int
+    zero: int
     derived: int
     base: int
-    zero: int
     total: int
 
 
@@ -29,8 +30,23 @@ class Record(NamedTuple):
     count: int
     # 1 is unbounded.
     mark: int
+    # Bytes that have no meaning and must be 0.
+    zeros: bytes
     minimum: int
     maximum: int
+
+
+def starts(layout, fields):
+    """Where each field starts, in the fields' own form."""
+    codes = re.findall("[0-9]*[A-Za-z]", layout.format)
+    return fields(*(struct.calcsize("<" + "".join(codes[:k])) for k in range(len(codes))))
+
+
+CONTENTS_AT = starts(CONTENTS, Contents)
+LEAF_AT = starts(LEAF, Leaf)
+RECORD_AT = starts(RECORD, Record)
+# What an accepted record holds in its zero bytes.
+ZEROS = bytes(RECORD_AT.minimum - RECORD_AT.zeros)
 
 
 class Places(NamedTuple):
@@ -77,7 +93,8 @@ def encode(sheet):
     derived = encode_tree(sheet.derived)
     base = encode_tree(sheet.base)
     counts = Contents(
-        len(sheet.leaves), len(derived) // RECORD.size, len(base) // RECORD.size, 0, 0
+        leaves=len(sheet.leaves), zero=0, derived=len(derived) // RECORD.size,
+        base=len(base) // RECORD.size, total=0,
     )
     contents = counts._replace(total=places(counts).end)
     leaves = b"".join(LEAF.pack(*leaf) for leaf in sheet.leaves)
@@ -89,7 +106,10 @@ def encode_tree(tree):
     """A tree's records: a group precedes its items."""
     unbounded = tree.maximum is None
     maximum = 0 if unbounded else tree.maximum
-    record = Record(tree.kind, tree.leaf, len(tree.items), unbounded, tree.minimum, maximum)
+    record = Record(
+        kind=tree.kind, leaf=tree.leaf, count=len(tree.items), mark=unbounded, zeros=ZEROS,
+        minimum=tree.minimum, maximum=maximum,
+    )
     return RECORD.pack(*record) + b"".join(encode_tree(item) for item in tree.items)
 
 

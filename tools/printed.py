@@ -1,6 +1,8 @@
 """A sheet as the text of a paper: the trees, then what differs from document
 01's defaults. draft.py reads it back to the same sheet."""
 
+import re
+
 from draft import ONLY_LEAF
 from notation import leaf_names, tree_text
 from sheet import PROCESS_CONTENTS, usual_leaf, usual_verdict
@@ -8,16 +10,32 @@ from statements import VERDICT_WORDS
 
 WORD_OF_VERDICT = {number: word for word, number in VERDICT_WORDS.items()}
 
+# Trees go on in another line after so many characters.
+WIDTH = 96
+# What of a tree's text ends in a comma that is in no pair, and so in brackets.
+UP_TO_COMMA = re.compile(r"(?:\([^)]*\)|[^(,])+,?")
+
 
 def paper_text(sheet):
     names = leaf_names(sheet.leaves)
-    lines = [f"{tree_text(sheet.derived, names)} | {tree_text(sheet.base, names)}"]
+    lines = [folded(f"{tree_text(sheet.derived, names)} | {tree_text(sheet.base, names)}")]
     found = [names[number] for number in leaves_in_order(sheet.derived, sheet.base)]
     if (found or [ONLY_LEAF]) != names:
         lines.append(f"leaves : {', '.join(names)}")
     lines += [f"{', '.join(leaves)} : {what}" for what, leaves in leaf_settings(sheet, names)]
     lines += verdict_lines(sheet, names)
     return "".join(f"{line}\n" for line in lines)
+
+
+def folded(trees):
+    """The text of trees, on several lines where it is long."""
+    first, *others = UP_TO_COMMA.findall(trees)
+    lines = [first]
+    for part in others:
+        if len(lines[-1]) + len(part) > WIDTH:
+            lines.append("  ")
+        lines[-1] += part
+    return "\n".join(lines)
 
 
 def leaves_in_order(*trees):

@@ -44,8 +44,11 @@ def read(data):
 
 def read_tree(data, leaves):
     """The tree of bytes that are accepted alone, over these leaves."""
-    if len(data) % layout.RECORD.size:
+    records, broken = divmod(len(data), layout.RECORD.size)
+    if broken:
         raise Refused(DERIVED + COUNTS, f"{len(data)} bytes, and the last record is broken")
+    if records > MOST_RECORDS:
+        raise Refused(DERIVED + COUNTS, f"{records} records, and a tree has at most {MOST_RECORDS}")
     return TreeCheck(data, 0, len(data), leaves, DERIVED).whole()
 
 
@@ -64,7 +67,8 @@ def checked_contents(data):
     )
     for field, count, most in counts:
         check(1 <= count <= most, f"the {field} is {count}, not 1 to {most}")
-    check(contents.zero == 0, f"the zero byte is {contents.zero}")
+    check(contents.zero == 0,
+          f"byte {layout.CONTENTS_AT.zero} (from 0) of the contents is {contents.zero}, not 0")
     total = layout.places(contents).end
     check(
         contents.total == total, f"the total field is {contents.total}, the counts make {total}"
@@ -158,6 +162,9 @@ class TreeCheck:
             return f"unbounded mark {record.mark}, not 0 or 1"
         if record.mark and record.maximum:
             return f"maximum {record.maximum} beside the unbounded mark"
+        for at, value in enumerate(record.zeros, layout.RECORD_AT.zeros):
+            if value:
+                return f"byte {at} (from 0) of the record is {value}, not 0"
         return None
 
     def refuse(self, fault, what):

@@ -1,4 +1,5 @@
-"""The tokens of one line of a paper.
+"""The tokens of one statement of a paper: of a line, and of the lines after it
+while a bracket is open.
 
 A scanner remembers what was looked for at the present token, so that an error
 lists everything that could have stood there."""
@@ -11,19 +12,29 @@ from faults import PaperError, Token
 # character is a token by itself, which nothing expects.
 TOKEN = re.compile(r"[A-Za-z]+[0-9]*|[0-9]+|\S")
 COMMENT = "#"
+OPENING, CLOSING = "[", "]"
 # A number of more digits is too large for every field.
 MOST_DIGITS = 20
 
 
 class Scanner:
     def __init__(self, text, line):
-        text = text.split(COMMENT, 1)[0].rstrip()
-        self.tokens = [
-            Token(match.group(), line, match.start() + 1) for match in TOKEN.finditer(text)
-        ]
-        self.tokens.append(Token("", line, len(text) + 1))
+        self.tokens = []
+        # How many brackets are open at the end.
+        self.opened = 0
         self.at = 0
         self.tried = []
+        self.go_on(text, line)
+
+    def go_on(self, text, line):
+        """Takes another line into the statement."""
+        text = text.split(COMMENT, 1)[0].rstrip()
+        found = [Token(match.group(), line, match.start() + 1) for match in TOKEN.finditer(text)]
+        # The statement ends where its last token does.
+        if found or not self.tokens:
+            self.tokens[-1:] = [*found, Token("", line, len(text) + 1)]
+        words = [token.text for token in found]
+        self.opened += words.count(OPENING) - words.count(CLOSING)
 
     @property
     def token(self):
@@ -40,7 +51,7 @@ class Scanner:
         return len(self.tokens) == 1
 
     def has(self, text):
-        """Whether this token stands anywhere in the line."""
+        """Whether this token stands anywhere in the statement."""
         return any(token.text == text for token in self.tokens)
 
     def take(self):

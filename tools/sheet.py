@@ -6,7 +6,7 @@ import enum
 from typing import List, NamedTuple, Optional
 
 MOST_LEAVES = 64
-MOST_RECORDS = 255
+MOST_RECORDS = 1000
 MOST_DEPTH = 12
 MOST_LEVELS = 17
 MOST_OCCURS = 4294967295

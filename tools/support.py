@@ -15,12 +15,11 @@ from draft import parse
 from faults import PaperError
 from notation import LETTERS, numbered, tree_text
 from printed import leaves_in_order, verdict_word
-from scanner import TOKEN
+from scanner import CLOSING, OPENING, TOKEN
 from sheet import (
     MOST_DEPTH, MOST_LEAVES, MOST_NAME, MOST_OCCURS, MOST_RECORDS, OK, PROCESS_CONTENTS,
-    SET_REASONS, UNDECIDED, Kind, Leaf, Sheet, Tree, usual_table,
+    SET_REASONS, UNDECIDED, Kind, Leaf, Sheet, Tree, usual_leaf, usual_table,
 )
-
 
 
 def needs(program):
@@ -49,12 +48,22 @@ def random_sheet(seed, leaves=MOST_LEAVES, records=MOST_RECORDS, depth=MOST_DEPT
     count = rng.choice([1, 1, 2, 3, rng.randint(1, min(8, leaves)), rng.randint(1, leaves)])
     share = rng.choice([0, 0.2, 0.5, 1])
     listed = [random_leaf(rng, share) for _ in range(min(count, leaves))]
-    derived, base = (
-        Grower(rng, listed, rng.choice([1, rng.randint(1, min(8, records)), records]), depth).tree()
-        for _ in range(2)
-    )
+    sizes = [1, rng.randint(1, min(8, records)), min(100, records), records]
+    derived, base = (Grower(rng, listed, rng.choice(sizes), depth).tree() for _ in range(2))
     return Sheet(listed, random_table(rng, len(listed)), random_table(rng, len(listed)),
                  derived, base)
+
+
+def row(records):
+    """S[a,a,..] of so many records, over leaf 0."""
+    return Tree(Kind.SEQUENCE, 0, 1, 1, [Tree(Kind.ELEMENT, 0, 1, 1, [])] * (records - 1))
+
+
+def largest_sheet():
+    """As many leaves and records as there may be; it passes."""
+    leaves = [usual_leaf(Kind.ELEMENT, place) for place in range(MOST_LEAVES)]
+    table, tree = usual_table(MOST_LEAVES), row(MOST_RECORDS)
+    return Sheet(leaves, table, table, tree, tree)
 
 
 def random_leaf(rng, wildcards):
@@ -94,7 +103,7 @@ class Grower:
         kind = self.rng.choice([Kind.SEQUENCE, Kind.SEQUENCE, Kind.CHOICE, Kind.CHOICE, Kind.ALL])
         pair = (self.rng.randint(0, 1), 1) if kind == Kind.ALL else self.pair()
         items = []
-        wanted = self.rng.choice([0, 1, 2, 3, 4, 60])
+        wanted = self.rng.choice([0, 1, 2, 3, 4, 60, 600])
         allowed = depth < self.depth and (kind != Kind.ALL or elements)
         while allowed and len(items) < wanted and self.records > 0:
             items.append(self.tree(depth + 1, kind == Kind.ALL))
@@ -157,11 +166,16 @@ def verdict_statements(rng, derived, names, first, second):
 
 
 def spaced(rng, line):
-    """The line with other blanks, and sometimes a comment."""
-    text = ""
+    """The line with other blanks, on more lines where a bracket is open, and
+    sometimes with a comment."""
+    text, opened = "", 0
     for token in TOKEN.findall(line):
         apart = text[-1:].isalnum() and token[0].isalnum()
-        text += rng.choice([" ", "  ", "\t"] if apart else ["", "", " "]) + token
+        blank = rng.choice([" ", "  ", "\t"] if apart else ["", "", " "])
+        if opened > 0 and rng.random() < 0.05:
+            blank = rng.choice(["\n", "\r\n  ", "\n\n", " # ]\n"])
+        text += blank + token
+        opened += (token == OPENING) - (token == CLOSING)
     return text + rng.choice(["", "", " ", " # S[a | : é"])
 
 
@@ -172,6 +186,11 @@ def run(*words, data=b"", program=None, joiner=None, describer=None, stdout=subp
             environment[variable] = str(path)
     return subprocess.run([str(PAPER), *map(str, words)], input=data, stdout=stdout,
                           stderr=subprocess.PIPE, env=environment, check=False)
+
+
+def octal(data):
+    """The bytes as `printf` of the shell takes them."""
+    return "".join(f"\\{byte:03o}" for byte in data)
 
 
 class Command(unittest.TestCase):

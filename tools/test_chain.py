@@ -13,7 +13,7 @@ from proved import JOIN
 from refusals import Refused
 from sheet import MOST_DEPTH, MOST_LEVELS, MOST_RECORDS, Kind, Leaf, Tree
 from support import (
-    SAMPLES, Command, FaultsCase, Grower, needs_joiner, needs_marker, random_leaf, run,
+    SAMPLES, Command, FaultsCase, Grower, needs_joiner, needs_marker, octal, random_leaf, row, run,
 )
 from test_faults import END, TREE
 
@@ -21,6 +21,8 @@ ELEMENT = Leaf(Kind.ELEMENT, 0, 0)
 LEVEL = f"'-', {TREE}"
 TOO_MANY = f"a joined tree of at most {MOST_RECORDS} groups and leaves"
 TOO_DEEP = f"a joined tree of a depth of at most {MOST_DEPTH}"
+# So many bytes of a chain the joining program reads, at most.
+MOST_READ = 65536
 
 # A chain, and the tree that it makes.
 JOINED = [
@@ -79,13 +81,6 @@ class Notation(unittest.TestCase):
     def test_no_content(self):
         for text in ("-", "- + -", " + ".join("-" * MOST_LEVELS)):
             self.assertIsNone(chain.join(read(text, alone=True).chain.levels))
-
-    def test_bytes(self):
-        levels = read("- + S[b] + - + a(0,*)", alone=True).chain.levels
-        one = bytes([2, 0, 1, 0, 1, 0, 0, 0, 1, 0, 0, 0, 0, 0, 0, 0, 1, 0, 0, 0, 1, 0, 0, 0])
-        other = bytes([0, 1, 0, 1, 0, 0, 0, 0, 0, 0, 0, 0])
-        counts = bytes([0, 0, 2, 0, 0, 0, 1, 0])
-        self.assertEqual(layout.encode_chain(levels), bytes([4]) + counts + one + other)
 
 
 class Faults(FaultsCase):
@@ -148,7 +143,7 @@ def random_levels(seed):
 @needs_joiner
 class SameAsTheProgram(unittest.TestCase):
     """The joining program gives this aid's tree, or refuses what is over a
-    limit."""
+    limit, by 15 where it does not read all of it."""
 
     COUNT = 2000
 
@@ -158,8 +153,9 @@ class SameAsTheProgram(unittest.TestCase):
         if whole and (whole.records > MOST_RECORDS or whole.depth > MOST_DEPTH):
             with self.assertRaises(Refused) as raised:
                 joiner.join(levels, leaves)
-            self.assertEqual(raised.exception.number, 16)
-            return "refused"
+            cut = len(layout.encode_chain(levels)) > MOST_READ
+            self.assertEqual(raised.exception.number, 15 if cut else 16)
+            return "cut" if cut else "refused"
         self.assertEqual(joiner.join(levels, leaves), whole)
         return "no content" if whole is None else len(levels)
 
@@ -168,26 +164,28 @@ class SameAsTheProgram(unittest.TestCase):
         for seed in range(self.COUNT):
             with self.subTest(seed=seed):
                 seen.add(self.check(*random_levels(seed)))
-        self.assertEqual(seen, {"refused", "no content", *range(1, MOST_LEVELS + 1)})
+        self.assertEqual(seen, {"cut", "refused", "no content", *range(1, MOST_LEVELS + 1)})
 
     def test_limits(self):
         leaf = Tree(Kind.ELEMENT, 0, 1, 1, [])
-
-        def wide(records):
-            return Tree(Kind.SEQUENCE, 0, 1, 1, [leaf] * (records - 1))
-
         for trees, expected in (
-            ([wide(MOST_RECORDS)], 1), ([wide(MOST_RECORDS - 2), leaf], 2),
-            ([wide(MOST_RECORDS - 1), leaf], "refused"),
-            ([wide(200), None, wide(MOST_RECORDS - 201)], 3),
-            ([wide(200), None, wide(MOST_RECORDS - 200)], "refused"),
+            ([row(MOST_RECORDS)], 1), ([row(MOST_RECORDS - 2), leaf], 2),
+            ([row(MOST_RECORDS - 1), leaf], "refused"),
+            ([row(200), None, row(MOST_RECORDS - 201)], 3),
+            ([row(200), None, row(MOST_RECORDS - 200)], "refused"),
+            ([row(255), leaf], 2), ([row(256), row(257)], 2),
             ([leaf] * MOST_DEPTH, MOST_DEPTH), ([leaf] * (MOST_DEPTH + 1), "refused"),
-            ([wide(MOST_RECORDS)] * MOST_LEVELS, "refused"),
+            ([row(MOST_RECORDS)] * 4, "refused"), ([row(MOST_RECORDS)] * MOST_LEVELS, "cut"),
         ):
             self.assertEqual(self.check(trees, [ELEMENT]), expected)
 
+    def test_a_tree_of_a_record_too_many(self):
+        with self.assertRaises(Refused) as raised:
+            joiner.join([row(MOST_RECORDS + 1)], [ELEMENT])
+        self.assertEqual(raised.exception.number, 14)
+
     def test_input_past_what_the_program_reads(self):
-        # One tree of as many records as its count can tell; with all of it, 14.
+        # One tree of as many records as its count can tell; the library refuses 14.
         most = (1 << 16) - 1
         done = JOIN.run(layout.CHAIN.pack(1) + layout.LEVEL.pack(most)
                         + bytes(layout.RECORD.size * most))
@@ -204,12 +202,12 @@ class Joining(Command):
     """The command, over a program that answers as it is told."""
 
     PAPER = "a | a + b\n"
-    # S[a,b], which a chain `a + b` makes, and S[b,a].
-    BYTES = r"\2\0\2\0\1\0\0\0\1\0\0\0" + r"\0\0\0\0\1\0\0\0\1\0\0\0\0\1\0\0\1\0\0\0\1\0\0\0"
-    OTHER = r"\2\0\2\0\1\0\0\0\1\0\0\0" + r"\0\1\0\0\1\0\0\0\1\0\0\0\0\0\0\0\1\0\0\0\1\0\0\0"
+    # Of the leaves a and b: the tree that a chain `a + b` makes, and another.
+    BYTES = layout.encode_tree(parse("S[a,b] | S[a,b]").base)
+    OTHER = layout.encode_tree(parse("S[a,b] | S[b,a]").base)
 
     def join(self, *words, data="a + b", answer=BYTES, message="", status=0):
-        program = self.program(answer, status, message)
+        program = self.program(octal(answer), status, message)
         return run(*(words or ["join"]), data=data.encode(), joiner=program)
 
     def test_only_the_chain_changes(self):
@@ -217,21 +215,27 @@ class Joining(Command):
         printed = "# x\n\n S[b7] |S[a,b7] # é\r\nleaves : a, b7\na|b7 : ok\n"
         self.check(self.join(data=text), 0, printed.encode(), "")
 
+    def test_a_chain_on_several_lines(self):
+        text = "S[a,\nb] | S[ # x\n a] + S[\n\nb] # y\na | b : ok\n"
+        tree = layout.encode_tree(parse("a | S[S[a],S[b]]\nleaves : a, b").base)
+        printed = "S[a,\nb] | S[S[a],S[b]] # y\na | b : ok\n"
+        self.check(self.join(data=text, answer=tree), 0, printed.encode(), "")
+
     def test_to_a_file(self):
         out = self.folder / "t"
         self.check(self.join("join", "-o", out), 0, b"", "")
-        self.assertEqual(out.read_bytes(), layout.encode_tree(parse("a | S[a,b]").base))
+        self.assertEqual(out.read_bytes(), self.BYTES)
         self.check(self.join("join", "-o", "-"), 0, out.read_bytes(), "")
 
     def test_leaf_numbers_are_those_of_the_paper(self):
         done = self.join("join", "-o", "-", data="b + a\nleaves : a, b", answer=self.OTHER)
-        self.check(done, 0, layout.encode_tree(parse("S[a,b] | S[b,a]").base), "")
+        self.check(done, 0, self.OTHER, "")
 
     def test_no_content(self):
         message = "no content\\n"
-        self.check(self.join(data="- + -", answer="", message=message), 0, b"no content\n", "")
+        self.check(self.join(data="- + -", answer=b"", message=message), 0, b"no content\n", "")
         out = self.folder / "t"
-        done = self.join("join", "-o", out, data="-", answer="", message=message)
+        done = self.join("join", "-o", out, data="-", answer=b"", message=message)
         self.check(done, 1, b"", "no content: there is no tree to write")
         self.assertFalse(out.exists())
 
@@ -243,8 +247,8 @@ class Joining(Command):
         here = "the chain gives S[a,b] by this aid, "
         for use in ("join", "mark", "write"):
             for answer, message, there in (
-                (self.OTHER, "", "S[b,a]"), ("", "refused 16\\n", "refused 16"),
-                ("", "no content\\n", "no content"),
+                (self.OTHER, "", "S[b,a]"), (b"", "refused 16\\n", "refused 16"),
+                (b"", "no content\\n", "no content"),
             ):
                 done = self.join(use, data=self.PAPER, answer=answer, message=message)
                 self.check(done, 1, b"", f"{here}{there} by the joining program")
@@ -252,8 +256,9 @@ class Joining(Command):
     def test_programs_that_give_no_tree(self):
         none = "no joined tree: the joining program"
         for answer, message, status in (
-            ("", "", 0), ("", "refused\\n", 0), (self.BYTES[:-2], "", 0), (self.BYTES, "a\\n", 0),
-            (self.BYTES, "", 3), (r"\5" + self.BYTES[2:], "", 0), (self.BYTES * 2, "", 0),
+            (b"", "", 0), (b"", "refused\\n", 0), (self.BYTES[:-1], "", 0), (self.BYTES, "a\\n", 0),
+            (self.BYTES, "", 3), (b"\5" + self.BYTES[1:], "", 0), (self.BYTES * 2, "", 0),
+            (layout.encode_tree(row(MOST_RECORDS + 1)), "", 0),
         ):
             done = self.join(answer=answer, message=message, status=status)
             self.check(done, 2, b"", none)

@@ -49,6 +49,12 @@ IN_TREES = [
     ("A(2,1)[a] | a", 1, 2, "a minimum that is not above the maximum", "(2,1)"),
     ("A[a,w] | a", 1, 5, "an element as item of an all-group", "'w'"),
     ("A[S[a]] | a", 1, 3, "an element as item of an all-group", "'S'"),
+    # While a bracket is open, the tree goes on in the next line.
+    ("S[a,\n  b c] | a", 2, 5, "'(', ']' or ','", "'c'"),
+    ("S[a # b]\n\n,c | a", 3, 4, "'(', ']' or ','", "'|'"),
+    ("S[a\n# b]\n\n", 1, 4, "'(', ']' or ','", END),
+    ("S[a] | S[a,\nb\na | b : ok", 3, 1, "'(', ']' or ','", "'a'"),
+    ("S[a\n]\n | a", 2, 2, "'|'", END),
 ]
 
 IN_STATEMENTS = [

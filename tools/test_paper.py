@@ -58,7 +58,9 @@ BY_REASON = {
     121: "S[a,b] | S[a,b,c]", 122: "a(0,1) | a", 123: "a(1,*) | a", 124: "a(1,2) | a",
 }
 
-SAMPLE_MARKS = {"entry": "passes", "results": "undecided", "rounds": "fails 105"}
+SAMPLE_MARKS = {
+    "entry": "passes", "results": "undecided", "rounds": "fails 105", "season": "passes",
+}
 # Of papers whose base is a chain.
 CHAIN_MARKS = {"report": "passes"}
 
@@ -143,7 +145,19 @@ class Reading(Command):
     def test_refused(self):
         done = run("read", data=SMALLEST.read_bytes() + b"\n", program=self.program("refused 1\\n"))
         self.check(done, 1, done.stdout, "")
-        self.assertIn(b"\n# there are 39 bytes, the counts make 38\n", done.stdout)
+        size = SMALLEST.stat().st_size
+        said = f"\n# there are {size + 1} bytes, the counts make {size}\n"
+        self.assertIn(said, done.stdout.decode())
+
+    def test_refused_zero_byte(self):
+        sheet = bytearray(layout.encode(parse("S[a] | a")))
+        place = layout.places(layout.contents_of(sheet)).derived
+        sheet[place + layout.RECORD_AT.zeros] = 9
+        done = run("read", data=bytes(sheet), program=self.program("refused 10\\n"))
+        self.check(done, 1, done.stdout, "")
+        self.assertIn(f"\n# record 0 (from 0) of the derived tree, at byte {place}: "
+                      f"byte {layout.RECORD_AT.zeros} (from 0) of the record is 9, not 0\n",
+                      done.stdout.decode())
 
 
 class Words(unittest.TestCase):
@@ -156,7 +170,9 @@ class Words(unittest.TestCase):
     def test_words_are_those_of_the_key(self):
         rows = KEY.read_text(encoding="utf-8").splitlines()
         for number, (words, rules) in [*REASONS.items(), *REFUSALS.items()]:
-            self.assertIn(f"| {number} | {words} | {rules} |", rows)
+            row = f"| {number} | {words} | {rules} |"
+            # Without the whole key in the message.
+            self.assertTrue(row in rows, row)
 
     def test_rules_stand_in_the_key(self):
         key = KEY.read_text(encoding="utf-8")
@@ -189,6 +205,8 @@ class Marks(Command):
                 self.assertEqual(done.stdout.decode().split(":")[0], mark, done.stderr)
 
     def test_samples(self):
+        self.assertEqual({*SAMPLE_MARKS, *CHAIN_MARKS},
+                         {file.stem for file in SAMPLES.glob("*.paper")})
         self.check_samples(SAMPLE_MARKS)
 
     @needs_joiner

@@ -1,18 +1,18 @@
 """Sheets become papers and papers sheets, without loss."""
 
 import unittest
-from pathlib import Path
 
 import layout
 import refusals
-from draft import parse
-from printed import paper_text
+from draft import parse, read
+from printed import WIDTH, folded, paper_text
 from sheet import MOST_DEPTH, MOST_LEAVES, MOST_OCCURS, MOST_RECORDS
-from support import random_paper, random_sheet
+from support import SAMPLES, largest_sheet, random_paper, random_sheet, row
 
-SAMPLES = Path(__file__).resolve().parent.parent / "samples"
 SHEETS = 3000
 PAPERS = 2000
+# The samples that are a tree's bytes, and the tree.
+TREES = {"entry": "S[a,C(0,*)[b,c]]", "total-too-large": "S(65536,65536)[a(65536,65536)]"}
 
 
 def written(text):
@@ -33,10 +33,13 @@ class RoundTrip(unittest.TestCase):
                 self.assertEqual(refusals.read(data), sheet)
                 self.assertEqual(written(read_back(data)), data)
             contents = layout.contents_of(data)
-            reached.append((contents.leaves, contents.base, sheet.base.depth))
+            wide = max(record.count for record in layout.records_of(
+                data[layout.places(contents).base:]))
+            reached.append((contents.leaves, contents.base, sheet.base.depth, wide))
         # Random sheets that never came to the limits would show little.
-        most = tuple(max(column) for column in zip(*reached))
-        self.assertEqual(most, (MOST_LEAVES, MOST_RECORDS, MOST_DEPTH))
+        *most, widest = (max(column) for column in zip(*reached))
+        self.assertEqual(most, [MOST_LEAVES, MOST_RECORDS, MOST_DEPTH])
+        self.assertGreater(widest, 255)
 
     def test_a_paper_may_be_written_in_many_ways(self):
         for seed in range(PAPERS):
@@ -44,10 +47,31 @@ class RoundTrip(unittest.TestCase):
             with self.subTest(seed=seed):
                 self.assertEqual(parse(random_paper(seed, sheet)), sheet)
 
+    def test_long_trees(self):
+        for records in (255, 256, 257, 700, MOST_RECORDS):
+            tree = row(records)
+            data = layout.encode(parse("a | a")._replace(derived=tree, base=tree))
+            self.assertEqual(written(read_back(data)), data)
+        data = layout.encode(largest_sheet())
+        self.assertEqual(written(read_back(data)), data)
+
+
+class Samples(unittest.TestCase):
     def test_printed_sheet_of_document_01(self):
         data = (SAMPLES / "smallest.sheet").read_bytes()
         self.assertEqual(written("a | a(0,1)"), data)
         self.assertEqual(read_back(data), "a | a(0,1)\n")
+
+    def test_trees(self):
+        self.assertEqual({file.stem for file in SAMPLES.glob("*.tree")}, set(TREES))
+        for name, text in TREES.items():
+            tree = read(text, alone=True).chain.levels[0]
+            self.assertEqual((SAMPLES / f"{name}.tree").read_bytes(), layout.encode_tree(tree))
+
+    def test_the_season_is_long(self):
+        sheet = parse((SAMPLES / "season.paper").read_text(encoding="utf-8"))
+        self.assertEqual((sheet.derived.records, sheet.base.records), (682, 692))
+        self.assertEqual(parse(paper_text(sheet)), sheet)
 
 
 class Printed(unittest.TestCase):
@@ -89,7 +113,19 @@ class Printed(unittest.TestCase):
     def test_names_past_the_letters(self):
         sixty = [f"{letter}{number}" for number in ("", "1", "2")
                  for letter in "abcdefghijklmnopqrstuvxyz"][:60]
-        self.assert_comes_back(f"S[{','.join(sixty)}] | S[w,w1,w2,w3]\n")
+        text = f"S[{','.join(sixty)}] | S[w,w1,w2,w3]"
+        self.assert_comes_back(f"{text}\n", f"{folded(text)}\n")
+
+    def test_long_trees_go_on_in_other_lines(self):
+        text = f"S[{','.join(['a(0,1)', 'S[b,c]'] * 200)}] | S[{','.join(['a', 'S(2,*)[b]'] * 90)}]"
+        lines = folded(text).split("\n")
+        self.assertGreater(len(lines), 40)
+        self.assertLessEqual(max(map(len, lines)), WIDTH)
+        self.assertEqual("".join(line.strip() for line in lines), text)
+        self.assert_comes_back(f"{text}\n", f"{folded(text)}\n")
+        self.assertEqual(folded("S[a(0,1),b] | C[]"), "S[a(0,1),b] | C[]")
+        most = f"({MOST_OCCURS},{MOST_OCCURS})"
+        self.assert_comes_back(f"{f'S{most}[' * 9}a{']' * 9} | a\n")
 
 
 if __name__ == "__main__":

@@ -28,8 +28,9 @@ a verdict       ok (or 0), undecided (or 1), or a reason from 140 to 152
 """
 
 EPILOG = f"""\
-A paper has one statement to a line. # starts a comment, and blanks may stand
-between letters, numbers and signs.
+A paper has one statement to a line; while a bracket is open, a tree goes on in
+the next. # starts a comment, and blanks may stand between letters, numbers and
+signs.
 
 {GRAMMAR}
 Where nothing else is said, equal leaves are ok and others 140 in both tables,

@@ -61,7 +61,7 @@ REFUSALS = {
     3: (EXAMINER + "the fields of a leaf are out of order", "S3"),
     4: (EXAMINER + "a verdict that is not 0, 1 or 140 to 152", "S3"),
     15: (CALLER + "chain of 0 or over 17 levels, or of a length unlike its counts", "L2"),
-    16: (EXAMINER + "joined tree over 255 records or depth 12", "L5"),
+    16: (EXAMINER + "joined tree over 1000 records or depth 12", "L5"),
 }
 for place, (fault, rule) in enumerate(TREE_FAULTS):
     REFUSALS[5 + place] = (f"{EXAMINER}base tree, {fault}", f"S4, {rule}")

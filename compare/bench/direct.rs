@@ -6,9 +6,10 @@ use std::collections::HashMap;
 use std::slice::ChunksExact;
 use std::sync::Arc;
 
+use common::bytes::short;
 use common::chain;
-use common::sheet::{self, BASE, DERIVED, LEAF_BYTES, LEAVES, MOST_LEAVES, NAME, PROCESSING};
-use common::tree::{COUNT, KIND, Kind, LEAF, MARK, MAX, MIN, RECORD, number};
+use common::sheet::{Counts, LEAF_BYTES, MOST_LEAVES, NAME, PROCESSING};
+use common::tree::{KIND, Kind, LEAF, RECORD, count, pair};
 use oracle::stubs::{
     CompiledSchema, ComplexType, DerivationMethod, ElementDef, Particle, ProcessContents, TypeDef,
     Types, WildcardConstraint,
@@ -16,10 +17,11 @@ use oracle::stubs::{
 
 /// The particles and the tables of an accepted sheet.
 pub fn particles(bytes: &[u8]) -> (Particle, Particle, CompiledSchema) {
-    let places = sheet::places(bytes[LEAVES], bytes[DERIVED], bytes[BASE]);
+    let counts = Counts::read(bytes);
+    let places = counts.places();
     let leaves = &bytes[places.leaves];
     let schema = CompiledSchema {
-        leaves: usize::from(bytes[LEAVES]),
+        leaves: counts.leaves,
         first: bytes[places.first].to_vec(),
         second: bytes[places.second].to_vec(),
     };
@@ -57,7 +59,7 @@ pub fn types(bytes: &[u8]) -> (String, Types) {
 fn particle(records: &mut ChunksExact<u8>, leaves: &[u8]) -> Particle {
     let record = records.next().expect("a record");
     let (min, max) = pair(record);
-    let items = 0..record[COUNT];
+    let items = 0..count(record);
     match Kind::EVERY[usize::from(record[KIND])] {
         Kind::Element => Particle::Element(element(record, leaves)),
         Kind::Wildcard => Particle::Wildcard(wildcard(record, leaves)),
@@ -76,10 +78,6 @@ fn particle(records: &mut ChunksExact<u8>, leaves: &[u8]) -> Particle {
     }
 }
 
-fn pair(record: &[u8]) -> (u32, Option<u32>) {
-    (number(record, MIN), (record[MARK] == 0).then(|| number(record, MAX)))
-}
-
 fn leaf<'a>(record: &[u8], leaves: &'a [u8]) -> &'a [u8] {
     let at = LEAF_BYTES * usize::from(record[LEAF]);
     &leaves[at..at + LEAF_BYTES]
@@ -88,7 +86,7 @@ fn leaf<'a>(record: &[u8], leaves: &'a [u8]) -> &'a [u8] {
 fn element(record: &[u8], leaves: &[u8]) -> ElementDef {
     let leaf = leaf(record, leaves);
     let (min_occurs, max_occurs) = pair(record);
-    let name = u16::from_le_bytes([leaf[NAME], leaf[NAME + 1]]).to_string();
+    let name = short(leaf, NAME).to_string();
     ElementDef { name, min_occurs, max_occurs, leaf: record[LEAF] }
 }
 

@@ -1,18 +1,19 @@
-//! The groups of sheets that are measured, by size, from the seeded generator.
+//! The groups of sheets that are measured: random ones by size, from the seeded
+//! generator, and those whose marking is long, at several sizes.
 
 use std::ops::RangeInclusive;
 
 use cases::limits;
 use common::random::Rng;
 use common::sheet::Sheet;
-use common::tree::Kind;
+use common::tree::{Kind, MOST_RECORDS};
 use draw::sheets::{self, Size};
 
 use crate::{wide, worst};
 
 /// A group, and how its sheets are chosen.
 pub struct Group {
-    pub name: &'static str,
+    pub name: String,
     choice: Choice,
 }
 
@@ -20,49 +21,75 @@ enum Choice {
     /// So many of the generator's sheets of this size, that have so many
     /// leaves, and so many records in each tree.
     Drawn(usize, Size, RangeInclusive<usize>, RangeInclusive<usize>),
-    /// The longest marking of cases/limits.rs.
-    Longest,
-    /// One of worst.rs, by its members, the chain's kind, the elements
-    /// at its end and the two tables' verdicts on them.
-    Chain(usize, Kind, usize, (u8, u8)),
-    /// A group of each kind, as wide as there is room for, against a wildcard:
-    /// the rule that asks for the total range.
-    Wide,
+    /// One whose marking is long.
+    Long(Sheet),
+    /// A group of each kind, of so many elements, against a wildcard: the rule
+    /// that asks for the total range.
+    Wide(usize),
 }
 
-pub const EVERY: [Group; 13] = [
-    drawn("small", 2000, Size::Small, 1..=7, 1..=8),
-    drawn("middle", 500, Size::Any, 1..=24, 20..=60),
-    drawn("largest", 200, Size::Any, 25..=64, 128..=255),
-    drawn("few leaves", 200, Size::Any, 1..=7, 128..=255),
-    drawn("many leaves", 1000, Size::Any, 25..=64, 1..=8),
-    drawn("any", 2000, Size::Any, 1..=64, 1..=255),
-    Group { name: "wide, wildcard", choice: Choice::Wide },
-    Group { name: "worst", choice: Choice::Longest },
-    Group { name: "worst, undecided", choice: Choice::Chain(254, Kind::Choice, 1, (1, 1)) },
-    Group { name: "worst, sequences", choice: Choice::Chain(254, Kind::Sequence, 1, (1, 1)) },
-    Group { name: "worst, wide", choice: Choice::Chain(20, Kind::Choice, 240, (1, 1)) },
-    Group { name: "worst, failing", choice: Choice::Chain(2, Kind::Choice, 240, (140, 140)) },
-    Group { name: "worst, own pairs", choice: Choice::Chain(254, Kind::Choice, 240, (0, 1)) },
+/// The records of each tree that grows with its family.
+const SIZES: [usize; 3] = [250, 500, MOST_RECORDS];
+
+/// Families of sheets whose marking is long, by these records. In the first
+/// three of the worst the base is a short chain.
+const FAMILIES: [(&str, fn(usize) -> Sheet); 7] = [
+    ("all-groups", |records| limits::other_order(Kind::All, records - 1)),
+    ("worst", |records| limits::longest(records - 1)),
+    ("worst, undecided", |records| worst::chain(records - 1, Kind::Choice, 1, (1, 1))),
+    ("worst, sequences", |records| worst::chain(records - 1, Kind::Sequence, 1, (1, 1))),
+    ("worst, wide", |records| worst::of_records(records, (1, 1))),
+    ("worst, failing", |records| worst::of_records(records, (140, 140))),
+    ("worst, own pairs", |records| worst::of_records(records, (0, 1))),
 ];
 
-const fn drawn(
-    name: &'static str,
+pub fn every() -> Vec<Group> {
+    let mut out = vec![
+        drawn("small", 2000, Size::Small, 1..=7, 1..=8),
+        drawn("middle", 500, Size::Any, 1..=24, 20..=60),
+        drawn("large", 200, Size::Between(128, 255), 25..=64, 128..=255),
+        drawn("few leaves", 200, Size::Between(128, 255), 1..=7, 128..=255),
+        drawn("many leaves", 1000, Size::Any, 25..=64, 1..=8),
+        drawn("any", 2000, Size::Any, 1..=64, 1..=1000),
+        drawn("700 records", 60, Size::Between(600, 800), 1..=64, 600..=800),
+        drawn("1000 records", 60, Size::Between(900, 1000), 1..=64, 900..=1000),
+        Group { name: "wide, wildcard".into(), choice: Choice::Wide(254) },
+        Group { name: "widest, wildcard".into(), choice: Choice::Wide(MOST_RECORDS - 1) },
+        long("worst", limits::longest(254)),
+        long("worst, undecided", worst::chain(254, Kind::Choice, 1, (1, 1))),
+        long("worst, sequences", worst::chain(254, Kind::Sequence, 1, (1, 1))),
+        long("worst, wide", worst::chain(20, Kind::Choice, 240, (1, 1))),
+        long("worst, failing", worst::chain(2, Kind::Choice, 240, (140, 140))),
+        long("worst, own pairs", worst::chain(254, Kind::Choice, 240, (0, 1))),
+    ];
+    for (name, of) in FAMILIES {
+        let sized = |records| long(&format!("{name}, {records} records"), of(records));
+        out.extend(SIZES.map(sized));
+    }
+    out
+}
+
+fn long(name: &str, sheet: Sheet) -> Group {
+    Group { name: name.into(), choice: Choice::Long(sheet) }
+}
+
+fn drawn(
+    name: &str,
     count: usize,
     size: Size,
     leaves: RangeInclusive<usize>,
     records: RangeInclusive<usize>,
 ) -> Group {
-    Group { name, choice: Choice::Drawn(count, size, leaves, records) }
+    Group { name: name.into(), choice: Choice::Drawn(count, size, leaves, records) }
 }
 
 impl Group {
     pub fn sheets(&self, seed: u64) -> Vec<Sheet> {
         match &self.choice {
-            Choice::Longest => vec![longest()],
-            Choice::Wide => [Kind::Sequence, Kind::Choice, Kind::All].map(wide::sheet).to_vec(),
-            Choice::Chain(members, kind, bottom, verdicts) => {
-                vec![worst::chain(*members, *kind, *bottom, *verdicts)]
+            Choice::Long(sheet) => vec![sheet.clone()],
+            Choice::Wide(elements) => {
+                let sheet = |kind| wide::sheet(kind, *elements);
+                [Kind::Sequence, Kind::Choice, Kind::All].map(sheet).to_vec()
             }
             Choice::Drawn(count, size, leaves, records) => {
                 let fits = |sheet: &Sheet| {
@@ -75,9 +102,4 @@ impl Group {
             }
         }
     }
-}
-
-fn longest() -> Sheet {
-    let (_, sheet, _) = limits::stated().pop().expect("the longest marking is the last");
-    sheet
 }

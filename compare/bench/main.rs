@@ -41,8 +41,9 @@ impl Options {
 fn main() {
     let options = options();
     print_load();
-    let wanted = groups::EVERY.iter().filter(|group| options.wants(group.name));
-    print_groups(wanted, &options);
+    let mut groups = groups::every();
+    groups.retain(|group| options.wants(&group.name));
+    print_groups(&groups, &options);
     if options.wants(chains::NAME) {
         chains::print(options.seed, options.rounds);
     }
@@ -66,20 +67,20 @@ fn print_load() {
     println!("Load before the run: {}, cores: {cores}.\n", load.unwrap_or("unknown"));
 }
 
-fn print_groups<'a>(groups: impl Iterator<Item = &'a Group>, options: &Options) {
+fn print_groups(groups: &[Group], options: &Options) {
     let mut highest = None;
-    for (place, group) in groups.enumerate() {
-        let subjects = subjects::ready(group.name, &group.sheets(options.seed));
+    for (place, group) in groups.iter().enumerate() {
+        let subjects = subjects::ready(&group.name, &group.sheets(options.seed));
         if place == 0 {
             table::print_head("sheets", "particles");
         }
         for (mark, part) in parts(&subjects) {
             let times = time::measure(&part, time::MARKING, options.rounds);
             let bytes = part.iter().map(|subject| subject.bytes.len()).sum();
-            let row = Row { group: group.name, mark, count: part.len(), bytes, times };
+            let row = Row { group: &group.name, mark, count: part.len(), bytes, times };
             println!("{row}");
             if highest.is_none_or(|(ratio, _)| row.ratio() > ratio) {
-                highest = Some((row.ratio(), group.name));
+                highest = Some((row.ratio(), &group.name));
             }
         }
     }
@@ -122,10 +123,10 @@ fn options() -> Options {
 
 /// The name of a group, of the chains, of the total ranges, or of the peers.
 fn group(name: String) -> String {
-    let names =
-        groups::EVERY.iter().map(|group| group.name).chain([chains::NAME, totals::NAME, PEERS]);
-    let names: Vec<&str> = names.collect();
-    if !names.contains(&name.as_str()) {
+    let others = [chains::NAME, totals::NAME, PEERS].map(String::from);
+    let names = groups::every().into_iter().map(|group| group.name).chain(others);
+    let names: Vec<String> = names.collect();
+    if !names.contains(&name) {
         usage(&format!("there is no group '{name}', but: {}", names.join("; ")));
     }
     name

@@ -18,7 +18,7 @@ const BASE: &str = "S[a,b(0,1),C(0,*)[c,d,S[e,f(0,1)]],S(0,3)[g,h(0,1),i(0,*)],\
                     C[j,k,S[l,m]],n(0,1),o(0,*),S(0,1)[p,C(0,5)[q,r,s],t(0,1)],u]";
 const DERIVED: &str = "S[a,b,C(0,5)[c,S[e,f]],S(1,2)[g,i(0,3)],\
                        C[j,S[l,m]],n,o(0,2),S(0,1)[p,C(1,3)[q,s]],u]";
-/// The blocks of the largest model, 12 and 10 records each.
+/// The blocks of the large model, 12 and 10 records each.
 const BLOCKS: usize = 21;
 
 pub fn every() -> Vec<Model> {
@@ -32,7 +32,7 @@ pub fn every() -> Vec<Model> {
         model("middle", DERIVED, BASE),
         model("middle-failing", &DERIVED.replace(",u]", ",u(0,1)]"), BASE),
         model("middle-wildcard", DERIVED, "w(0,*)"),
-        Model { name: "largest", derived: blocks(false), base: blocks(true) },
+        Model { name: "large", derived: blocks(false), base: blocks(true) },
     ]
 }
 

@@ -13,9 +13,8 @@ use crate::direct;
 use crate::subjects::Subject;
 
 const BATCH: usize = 25;
-/// No further round begins after so long, but the first ones always do.
+/// No further round begins after so long; the slowest sheets have one round.
 const ENOUGH: Duration = Duration::from_secs(4);
-const FEWEST_ROUNDS: usize = 5;
 
 /// Nanoseconds a sheet, chain or tree, from the least and from the median time of each batch.
 #[derive(Clone, Copy, Default)]
@@ -45,7 +44,7 @@ pub fn measure<S>(subjects: &[&S], measured: Measured<S>, rounds: usize) -> Time
     let mut times: Vec<[Vec<f64>; 3]> = vec![Default::default(); batches.len()];
     let start = Instant::now();
     for round in 0..rounds {
-        if round >= FEWEST_ROUNDS && start.elapsed() > ENOUGH {
+        if round > 0 && start.elapsed() > ENOUGH {
             break;
         }
         for (batch, times) in batches.iter().zip(&mut times) {

@@ -1,5 +1,5 @@
-//! The trees whose total range is measured: groups of 254 elements, a chain of
-//! groups that ends at depth 12, and random trees; by the original's
+//! The trees whose total range is measured: groups of 254 and of 999 elements, a
+//! chain of groups that ends at depth 12, and random trees; by the original's
 //! `effective_total_range` and by the library, which is asked for both numbers
 //! and checks the tree each time.
 
@@ -20,6 +20,9 @@ use crate::{direct, wide};
 pub const NAME: &str = "totals";
 const RANDOM: u64 = 2000;
 const ONCE: Pair = (1, Some(1));
+const WIDE: usize = 254;
+/// As wide as a tree may be.
+const WIDEST: usize = MOST_RECORDS - 1;
 
 struct Subject {
     bytes: Vec<u8>,
@@ -41,13 +44,16 @@ pub fn print(seed: u64, rounds: usize) {
     }
 }
 
-fn groups(seed: u64) -> [(&'static str, Vec<Tree>); 5] {
+fn groups(seed: u64) -> [(&'static str, Vec<Tree>); 8] {
     let random = |case| trees::tree(&mut Rng::new(seed, case));
     let accepted = |tree: &Tree| tree.records() <= MOST_RECORDS && tree.depth() <= MOST_DEPTH;
     [
-        ("wide sequence", vec![wide::tree(Kind::Sequence)]),
-        ("wide choice", vec![wide::tree(Kind::Choice)]),
-        ("wide all", vec![wide::tree(Kind::All)]),
+        ("wide sequence", vec![wide::tree(Kind::Sequence, WIDE)]),
+        ("wide choice", vec![wide::tree(Kind::Choice, WIDE)]),
+        ("wide all", vec![wide::tree(Kind::All, WIDE)]),
+        ("widest sequence", vec![wide::tree(Kind::Sequence, WIDEST)]),
+        ("widest choice", vec![wide::tree(Kind::Choice, WIDEST)]),
+        ("widest all", vec![wide::tree(Kind::All, WIDEST)]),
         ("deep", vec![deep()]),
         ("random trees", (0..RANDOM).map(random).filter(accepted).collect()),
     ]

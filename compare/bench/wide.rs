@@ -1,13 +1,12 @@
-//! Groups with as many items as a tree has room for, and their sheets against a
-//! wildcard.
+//! Groups of many items, and their sheets against a wildcard.
 
 use common::sheet::{Leaf, Sheet};
-use common::tree::{Kind, MOST_RECORDS, Pair, Tree};
+use common::tree::{Kind, Pair, Tree};
 
 const ONCE: Pair = (1, Some(1));
 
-pub fn tree(kind: Kind) -> Tree {
-    Tree::group(kind, ONCE, elements(MOST_RECORDS - 1))
+pub fn tree(kind: Kind, items: usize) -> Tree {
+    Tree::group(kind, ONCE, elements(items))
 }
 
 /// Elements with pairs that no rule takes for each other.
@@ -17,12 +16,12 @@ pub fn elements(count: usize) -> Vec<Tree> {
 }
 
 /// It passes: nothing is outside (0, unbounded), and each member is ok.
-pub fn sheet(kind: Kind) -> Sheet {
+pub fn sheet(kind: Kind, items: usize) -> Sheet {
     Sheet {
         leaves: vec![Leaf::element(0), Leaf::wildcard(0)],
         first: vec![0; 4],
         second: vec![0; 4],
-        derived: tree(kind),
+        derived: tree(kind, items),
         base: Tree::leaf(Kind::Wildcard, 1, (0, None)),
     }
 }

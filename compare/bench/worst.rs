@@ -23,3 +23,10 @@ pub fn chain(members: usize, kind: Kind, bottom: usize, verdicts: (u8, u8)) -> S
         base: Tree::group(Kind::Choice, (0, None), vec![chain]),
     }
 }
+
+/// So many records in each tree: members, and elements at the end of a chain of
+/// choices.
+pub fn of_records(records: usize, verdicts: (u8, u8)) -> Sheet {
+    let groups = MOST_DEPTH - 1;
+    chain(records - 1, Kind::Choice, records - groups, verdicts)
+}

@@ -1,9 +1,10 @@
 //! Chains with their answers written down by hand from document 02 §1, to hold
 //! the second reading and the oracle as well as the library to them.
 
-use common::chain::{COUNT_BYTES, COUNTS, LEVELS, MOST_LEVELS, write};
+use common::bytes::{exchange, put_short};
+use common::chain::{LEVELS, MOST_LEVELS, count_place, write};
 use common::notation::parse;
-use common::tree::{KIND, MOST_DEPTH, MOST_RECORDS, RECORD};
+use common::tree::{COUNT, KIND, MOST_DEPTH, MOST_RECORDS, RECORD, ZEROS};
 
 /// What it shows, the chain, the length of the buffer; and the joined tree,
 /// `no content`, or `refused N`.
@@ -13,7 +14,8 @@ pub type Known = (&'static str, Vec<u8>, usize, String);
 const LONG: usize = RECORD * MOST_RECORDS + 1000;
 
 pub fn known() -> Vec<Known> {
-    [joins(), absences(), frames(), counts(), faults(), records(), depths(), buffers()].concat()
+    let sizes = [counts(), large_counts(), records(), depths()].concat();
+    [joins(), absences(), frames(), sizes, faults(), zeros(), buffers()].concat()
 }
 
 /// Every length that a chain can be cut or drawn out to. All but its own are
@@ -60,19 +62,28 @@ fn below(groups: usize, text: &str) -> String {
     format!("{}{text}{}", "S[".repeat(groups), "]".repeat(groups))
 }
 
-/// The two bytes of a count, as they stand in the chain.
-fn counted(mut bytes: Vec<u8>, level: usize, count: [u8; 2]) -> Vec<u8> {
-    let at = COUNTS + COUNT_BYTES * level;
-    bytes[at..at + COUNT_BYTES].copy_from_slice(&count);
+/// The chain with another record count of a level.
+fn counted(mut bytes: Vec<u8>, level: usize, count: usize) -> Vec<u8> {
+    put_short(&mut bytes, count_place(level), count);
+    bytes
+}
+
+/// The chain with the bytes of its first count exchanged.
+fn exchanged(bytes: &[u8]) -> Vec<u8> {
+    let mut bytes = bytes.to_vec();
+    exchange(&mut bytes, count_place(0));
     bytes
 }
 
 fn joins() -> Vec<Known> {
     let counts = [3, 1, 0, 0, 0, 1, 0];
-    let a = [0, 0, 0, 0, 1, 0, 0, 0, 1, 0, 0, 0];
-    let b = [0, 1, 0, 1, 2, 0, 0, 0, 0, 0, 0, 0];
+    let a = [0, 0, 0, 0, 0, 0, 0, 0, 1, 0, 0, 0, 1, 0, 0, 0];
+    let b = [0, 1, 0, 0, 1, 0, 0, 0, 2, 0, 0, 0, 0, 0, 0, 0];
+    let wide = [2, 0, 44, 1, 0, 0, 0, 0, 1, 0, 0, 0, 1, 0, 0, 0];
+    let row_after_b = [&[2, 1, 0, 45, 1][..], &b, &wide, &a.repeat(300)].concat();
     vec![
         long("byte by byte", [&counts[..], &a, &b].concat(), "S[a,b(2,*)]"),
+        long("300 items, byte by byte", row_after_b, &format!("S[b(2,*),{}]", row(301))),
         long("one level", of(&["a"]), "a"),
         long("two levels", of(&["a", "b"]), "S[a,b]"),
         long("equal levels", of(&["a", "a"]), "S[a,a]"),
@@ -126,7 +137,7 @@ fn frames() -> Vec<Known> {
         bytes
     };
     let (a, none) = (of(&["a"]), [""; MOST_LEVELS]);
-    let unfinished = vec![MOST_LEVELS as u8; COUNTS + COUNT_BYTES * (MOST_LEVELS - 1)];
+    let unfinished = vec![MOST_LEVELS as u8; count_place(MOST_LEVELS - 1)];
     vec![
         long("no byte", Vec::new(), "refused 15"),
         long("no level", vec![0], "refused 15"),
@@ -152,43 +163,110 @@ fn frames() -> Vec<Known> {
 
 fn counts() -> Vec<Known> {
     let a = |count| counted(of(&["a"]), 0, count);
-    let [most, over] = [MOST_RECORDS, MOST_RECORDS + 1].map(|records| of(&[&row(records)]));
-    let exchanged = |bytes: &[u8]| counted(bytes.to_vec(), 0, [bytes[COUNTS + 1], bytes[COUNTS]]);
-    let mut over_bad = over.clone();
-    over_bad[COUNTS + COUNT_BYTES + KIND] = 9;
-    let two = |first, second| counted(counted(of(&["S[a]", "b"]), 0, [first, 0]), 1, [second, 0]);
+    let two = |first, second| counted(counted(of(&["S[a]", "b"]), 0, first), 1, second);
     vec![
-        long("a count of 0 for a tree", a([0, 0]), "refused 15"),
-        long("a count of 2 for one record", a([2, 0]), "refused 15"),
-        long("a count of 1 with its bytes exchanged", a([0, 1]), "refused 15"),
-        long("a count of 1 with both bytes set", a([1, 1]), "refused 15"),
-        long("the greatest count for one record", a([255, 255]), "refused 15"),
-        long("the most records", most.clone(), &row(MOST_RECORDS)),
-        long("the most records, its bytes exchanged", exchanged(&most), "refused 15"),
-        long("the most records, counted 0", counted(most, 0, [0, 0]), "refused 15"),
-        long("a record over", over.clone(), "refused 14"),
-        long("a record over, its bytes exchanged", exchanged(&over), "refused 15"),
-        long("a record over, its low byte alone", counted(over, 0, [0, 0]), "refused 15"),
-        long("a record over, the first record bad", over_bad, "refused 14"),
+        long("a count of 0 for a tree", a(0), "refused 15"),
+        long("a count of 2 for one record", a(2), "refused 15"),
+        long("a count of 1 with its bytes exchanged", a(256), "refused 15"),
+        long("a count of 1 with both bytes set", a(257), "refused 15"),
+        long("the greatest count for one record", a(65535), "refused 15"),
         long("two records and one", two(2, 1), "S[S[a],b]"),
         long("a record of the other level", two(1, 2), "refused 14"),
         long("all records in the first", two(3, 0), "refused 14"),
         long("all records in the second", two(0, 3), "refused 14"),
         long("a record of no level", two(2, 0), "refused 15"),
         long("a record too few", two(3, 1), "refused 15"),
+        long("counts that go around to two and one", two(65535, 4), "refused 15"),
+    ]
+}
+
+/// Counts of more than a byte, and the limit of a tree's records.
+fn large_counts() -> Vec<Known> {
+    let [byte, whole, next] = [255, 256, 257].map(|records| of(&[&row(records)]));
+    let [most, over] = [MOST_RECORDS, MOST_RECORDS + 1].map(|records| of(&[&row(records)]));
+    let mut over_bad = over.clone();
+    over_bad[count_place(1) + KIND] = 9;
+    let split = of(&[&row(256), &row(300)]);
+    let swapped = counted(counted(split.clone(), 0, 300), 1, 256);
+    let greatest = write(&[tree("a").repeat(65535)]);
+    vec![
+        long("255 records", byte, &row(255)),
+        long("256 records", whole.clone(), &row(256)),
+        long("256 records, its bytes exchanged", exchanged(&whole), "refused 15"),
+        long("256 records, its low byte alone", counted(whole, 0, 0), "refused 15"),
+        long("257 records", next.clone(), &row(257)),
+        long("257 records, its low byte alone", counted(next, 0, 1), "refused 15"),
+        long("700 records", of(&[&row(700)]), &row(700)),
+        long("256 and 300 records", split, &format!("S[{},{}]", row(256), row(300))),
+        long("256 and 300 records, exchanged", swapped, "refused 14"),
+        long("the most records", most.clone(), &row(MOST_RECORDS)),
+        long("the most records, its bytes exchanged", exchanged(&most), "refused 15"),
+        long("the most records, counted 0", counted(most.clone(), 0, 0), "refused 15"),
+        long(
+            "the most records, its low byte alone",
+            counted(most, 0, MOST_RECORDS % 256),
+            "refused 15",
+        ),
+        long("a record over", over.clone(), "refused 14"),
+        long("a record over, its bytes exchanged", exchanged(&over), "refused 15"),
+        long("a record over, counted one less", counted(over, 0, MOST_RECORDS), "refused 15"),
+        long("a record over, the first record bad", over_bad, "refused 14"),
+        long("the greatest count, all there", greatest, "refused 14"),
     ]
 }
 
 /// A tree that is refused with this number.
 fn bad(number: u32) -> Vec<u8> {
     match number {
-        10 => [&[9][..], &tree("a")[1..]].concat(),
+        10 => damaged("a", KIND, 9),
         11 => tree("a(2,1)"),
         12 => tree("A[w]"),
         13 => tree(&below(MOST_DEPTH, "a")),
         14 => tree("S[a]")[..RECORD].to_vec(),
         _ => panic!("no refusal of a tree"),
     }
+}
+
+/// A tree with one byte changed.
+fn damaged(text: &str, at: usize, value: u8) -> Vec<u8> {
+    let mut tree = tree(text);
+    tree[at] = value;
+    tree
+}
+
+/// Each zero byte of a record, and an item count of which one byte is read, in
+/// either of two levels.
+fn zeros() -> Vec<Known> {
+    let mut out = Vec::new();
+    for place in ZEROS {
+        for value in [1, 128, 255] {
+            let zero = damaged("S[a,b]", 2 * RECORD + place, value);
+            out.push(long(
+                "a zero byte in the first",
+                write(&[zero.clone(), tree("a")]),
+                "refused 10",
+            ));
+            out.push(long("a zero byte in the second", write(&[tree("a"), zero]), "refused 10"));
+        }
+    }
+    let (zero, high) = (damaged("a", ZEROS.start, 1), damaged("S[a]", COUNT + 1, 1));
+    let leaf = damaged("a", COUNT + 1, 1);
+    let mut none = damaged("S[]", COUNT + 1, 1);
+    out.extend([
+        long("a pair, then a zero byte", write(&[bad(11), zero.clone()]), "refused 11"),
+        long("a zero byte, then a pair", write(&[zero.clone(), bad(11)]), "refused 10"),
+        long("a zero byte in a level too many", write(&vec![zero; MOST_LEVELS + 1]), "refused 15"),
+        long("a leaf's count, its higher byte", write(&[tree("a"), leaf]), "refused 10"),
+        long("257 items, one there", write(&[tree("a"), high]), "refused 14"),
+        long("256 items, none there", write(&[none.clone(), tree("a")]), "refused 14"),
+    ]);
+    none.extend(tree("a").repeat(256));
+    out.push(long(
+        "256 items, all there",
+        write(&[none, tree("b")]),
+        &format!("S[{},b]", row(257)),
+    ));
+    out
 }
 
 fn faults() -> Vec<Known> {
@@ -224,8 +302,12 @@ fn of_fault(number: u32) -> Vec<(&'static str, Vec<u8>, u32)> {
 
 /// Of `MOST_RECORDS`, the joining takes one for each tree but the first.
 fn records() -> Vec<Known> {
+    let full = row(MOST_RECORDS);
+    let mut longest = [""; MOST_LEVELS];
+    longest[8] = &full;
+    let longest = of(&longest);
     let (half, rest) = (MOST_RECORDS / 2, MOST_RECORDS - 1 - MOST_RECORDS / 2);
-    let [three, two, one, full] = [4, 2, 1, 0].map(|less| row(MOST_RECORDS - less));
+    let [three, two, one] = [4, 2, 1].map(|less| row(MOST_RECORDS - less));
     let halves = |more| of(&[&row(half), &row(rest + more)]);
     let joined = format!("S[{},{}]", row(half), row(rest));
     vec![
@@ -237,6 +319,8 @@ fn records() -> Vec<Known> {
         long("one over joined, the second long", of(&["a", &one]), "refused 16"),
         long("one over joined, the first long", of(&[&one, "a"]), "refused 16"),
         long("the most alone", of(&["", &full, ""]), &full),
+        long("the longest chain", longest.clone(), &full),
+        long("the longest chain and a byte", [&longest[..], &[0]].concat(), "refused 15"),
         long("the most and one", of(&[&full, "a"]), "refused 16"),
         long("one and the most", of(&["a", &full]), "refused 16"),
         long("the most twice", of(&[&full, &full]), "refused 16"),

@@ -9,6 +9,7 @@ pub fn known() -> Vec<Known> {
     let lists = [&PRODUCTS[..], &SUMS, &SPANS, &ZEROS, &UNBOUNDED, &NESTED];
     let mut out: Vec<Known> = lists.concat().iter().map(|(t, s)| (t.to_string(), *s)).collect();
     out.extend(deep());
+    out.extend(wide());
     out
 }
 
@@ -116,5 +117,25 @@ fn deep() -> [Known; 3] {
         (tree(most, most), "too large, too large"),
         (tree("(0,0)", most), "0, 0"),
         (tree(most, "(0,1)"), "0, too large"),
+    ]
+}
+
+/// Groups of more items than a byte can count.
+fn wide() -> [Known; 10] {
+    let row = |group: &str, items: &[(usize, &str)]| {
+        let items: Vec<&str> = items.iter().flat_map(|(count, item)| vec![*item; *count]).collect();
+        format!("{group}[{}]", items.join(","))
+    };
+    [
+        (row("S", &[(255, "a(16777216,16777217)")]), "4278190080, 4278190335"),
+        (row("S", &[(256, "a(16777215,16777216)")]), "4294967040, too large"),
+        (row("S", &[(256, "a(16777215,16777215)"), (1, "b(255,256)")]), "4294967295, too large"),
+        (row("A", &[(999, "a(4299266,4299267)")]), "4294966734, too large"),
+        (row("S(65537,65537)", &[(257, "a(255,255)")]), "4294967295, 4294967295"),
+        (row("S(65537,65537)", &[(256, "a(256,256)")]), "too large, too large"),
+        (row("S(0,4294967295)", &[(999, "a(0,0)")]), "0, 0"),
+        (row("C", &[(256, "a(2,2)"), (1, "b(1,3)")]), "1, 3"),
+        (row("C", &[(256, "a(2,3)"), (1, "b(4,*)")]), "2, unbounded"),
+        (row("C", &[(1, "b(0,7)"), (998, "a(2,3)")]), "0, 7"),
     ]
 }

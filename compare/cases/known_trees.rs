@@ -1,32 +1,38 @@
 //! Byte strings with their refusals written down by hand from document 01, to
 //! hold the second reading (second/tree.rs) as well as the library to them.
 
+use common::bytes::{exchange, put_number};
 use common::notation::parse;
-use common::tree::{Kind, MAX, MOST_RECORDS, RECORD, Tree};
+use common::tree::{
+    COUNT, KIND, Kind, LEAF, MARK, MAX, MIN, MOST_RECORDS, RECORD, Tree, ZEROS, put_count,
+};
 
 /// What it shows, the string, and its refusal; 0 where it is accepted.
 pub type Known = (&'static str, Vec<u8>, u32);
 
 type Record = [u8; RECORD];
 
+/// The most items that a group can have.
+const MOST: usize = MOST_RECORDS - 1;
+
 /// Kind, leaf number, item count, unbounded mark, minimum, maximum.
-fn record(kind: u8, leaf: u8, count: u8, mark: u8, min: u32, max: u32) -> Record {
-    let [a, b, c, d] = min.to_le_bytes();
-    let [e, f, g, h] = max.to_le_bytes();
-    [kind, leaf, count, mark, a, b, c, d, e, f, g, h]
+fn record(kind: u8, leaf: u8, count: usize, mark: u8, min: u32, max: u32) -> Record {
+    let mut record = [0; RECORD];
+    (record[KIND], record[LEAF], record[MARK]) = (kind, leaf, mark);
+    put_count(&mut record, count);
+    put_number(&mut record, MIN, min);
+    put_number(&mut record, MAX, max);
+    record
 }
 
-fn one(kind: u8, leaf: u8, count: u8, mark: u8, min: u32, max: u32) -> Vec<u8> {
+fn one(kind: u8, leaf: u8, count: usize, mark: u8, min: u32, max: u32) -> Vec<u8> {
     record(kind, leaf, count, mark, min, max).to_vec()
 }
 
 pub fn known() -> Vec<Known> {
-    let mut out = fields();
-    out.extend(pairs_and_alls());
-    out.extend(depths());
-    out.extend(counts());
-    out.extend(lengths());
-    out
+    let parts =
+        [fields(), zeros(), pairs_and_alls(), depths(), counts(), wide(), halves(), in_bytes()];
+    [parts.concat(), lengths()].concat()
 }
 
 fn fields() -> Vec<Known> {
@@ -46,6 +52,8 @@ fn fields() -> Vec<Known> {
         ("a leaf number on an all-group", one(4, 1, 0, 0, 1, 1), 10),
         ("an item count on an element", one(0, 0, 1, 0, 1, 1), 10),
         ("an item count on a wildcard", one(1, 0, 255, 0, 1, 1), 10),
+        ("a count's higher byte on an element", one(0, 0, 256, 0, 1, 1), 10),
+        ("a count's highest bit on a wildcard", one(1, 0, 32768, 0, 1, 1), 10),
         ("mark 2", one(0, 0, 0, 2, 0, 0), 10),
         ("unbounded", one(0, 0, 0, 1, 4294967295, 0), 0),
         ("a maximum beside the mark", one(0, 0, 0, 1, 0, 1), 10),
@@ -53,6 +61,44 @@ fn fields() -> Vec<Known> {
         ("one number for element and wildcard", tree("S[a,w]"), 0),
         ("fields before the pair", one(5, 0, 0, 0, 2, 1), 10),
     ]
+}
+
+/// Each zero byte of a record in turn, and two faults: a record's fields come
+/// before all else of it, and after all of the records before it.
+fn zeros() -> Vec<Known> {
+    let set = |mut tree: Vec<u8>, at: usize, value: u8| {
+        tree[at] = value;
+        tree
+    };
+    let mut out = Vec::new();
+    for at in ZEROS {
+        for value in [1, 128, 255] {
+            out.push(("a zero byte of an element", set(tree("a"), at, value), 10));
+            out.push(("a zero byte of an all-group", set(tree("A[]"), at, value), 10));
+            out.push((
+                "a zero byte of an item",
+                set(tree("S[a,w(0,*)]"), 2 * RECORD + at, value),
+                10,
+            ));
+        }
+    }
+    let (first, last) = (ZEROS.start, ZEROS.end - 1);
+    out.extend([
+        ("a zero byte before the pair", set(one(0, 0, 0, 0, 2, 1), first, 1), 10),
+        ("a zero byte before the all-group", set(one(4, 0, 0, 1, 1, 0), last, 1), 10),
+        ("a zero byte before the depth", set(under(12, "a"), 12 * RECORD + first, 1), 10),
+        ("a zero byte before a missing item", set(one(2, 0, 1, 0, 1, 1), last, 1), 10),
+        ("a pair before an item's zero byte", set(tree("S(2,1)[a]"), RECORD + first, 1), 11),
+        ("an all-group before an item's", set(tree("A(1,2)[a]"), RECORD + last, 1), 12),
+        ("a depth before the next record's", set(under(13, "a"), 13 * RECORD + first, 1), 13),
+        (
+            "a surplus record before its own",
+            set([tree("a"), tree("b")].concat(), RECORD + first, 1),
+            14,
+        ),
+        ("a zero byte before a surplus record", set([tree("a"), tree("b")].concat(), last, 1), 10),
+    ]);
+    out
 }
 
 fn pairs_and_alls() -> Vec<Known> {
@@ -119,7 +165,99 @@ fn counts() -> Vec<Known> {
         ("an inner item missing", [group(1), group(2), element].concat(), 14),
         ("all inner groups full", [group(2), group(1), element, element].concat(), 0),
         ("a surplus in all groups", [group(1), group(1), element, element].concat(), 14),
-        ("255 items awaited", [group(255), element].concat(), 14),
+        ("1000 items awaited", [group(MOST + 1), element].concat(), 14),
+        ("65535 items awaited", [group(65535), element].concat(), 14),
+    ]
+}
+
+/// A sequence that awaits so many items, and so many elements.
+fn row(count: usize, elements: usize) -> Vec<u8> {
+    let element = record(0, 5, 0, 0, 1, 1);
+    [vec![record(2, 0, count, 0, 1, 1)], vec![element; elements]].concat().concat()
+}
+
+/// Counts of more than a byte.
+fn wide() -> Vec<Known> {
+    let (element, wildcard) = (record(0, 5, 0, 0, 1, 1), record(1, 5, 0, 0, 0, 1));
+    let group = |kind, count| record(kind, 0, count, 0, 1, 1);
+    let all = |elements: usize, after: &[Record]| {
+        let items = [&vec![element; elements], after].concat();
+        [vec![group(4, items.len())], items].concat().concat()
+    };
+    let below = |inner, items| [group(3, items).to_vec(), inner, element.to_vec()].concat();
+    let after_all = [&group(2, 2)[..], &all(256, &[]), &wildcard].concat();
+    vec![
+        ("a sequence of 255", row(255, 255), 0),
+        ("a sequence of 256", row(256, 256), 0),
+        ("a sequence of 257", row(257, 257), 0),
+        ("a sequence of 300", row(300, 300), 0),
+        ("a sequence of 700", row(700, 700), 0),
+        ("a sequence as wide as may be", row(MOST, MOST), 0),
+        ("an inner group of 256, an item after it", below(row(256, 256), 2), 0),
+        ("an inner group of 256, its last the outer's", below(row(256, 255), 2), 14),
+        ("an inner group of 256, a surplus record", below(row(256, 256), 1), 14),
+        ("an all-group of 300", all(300, &[]), 0),
+        ("an all-group as wide as may be", all(MOST, &[]), 0),
+        ("a wildcard as its 256th item", all(255, &[wildcard, element]), 12),
+        ("a wildcard as its 257th item", all(256, &[wildcard, element]), 12),
+        ("a wildcard as the last of so many", all(MOST - 1, &[wildcard]), 12),
+        ("a wildcard after an all-group of 256", after_all, 0),
+    ]
+}
+
+/// Counts of more than a byte of which one byte is read, or both exchanged.
+fn halves() -> Vec<Known> {
+    let exchanged = |count, elements| {
+        let mut tree = row(count, elements);
+        exchange(&mut tree, COUNT);
+        tree
+    };
+    vec![
+        ("256 items, none there", row(256, 0), 14),
+        ("256 items, one there", row(256, 1), 14),
+        ("256 items, 255 there", row(256, 255), 14),
+        ("256 items, 257 there", row(256, 257), 14),
+        ("257 items, one there", row(257, 1), 14),
+        ("none awaited, 256 there", row(0, 256), 14),
+        ("one awaited, 257 there", row(1, 257), 14),
+        ("the most awaited, the low byte's there", row(MOST, MOST % 256), 14),
+        ("256 with its bytes exchanged", exchanged(256, 256), 14),
+        ("256 exchanged to 1, one there", exchanged(256, 1), 0),
+        ("1 exchanged to 256, one there", exchanged(1, 1), 14),
+        ("1 exchanged to 256, 256 there", exchanged(1, 256), 0),
+        ("2 exchanged to 512, two there", exchanged(2, 2), 14),
+        ("257 with its bytes exchanged", exchanged(257, 257), 0),
+        ("300 with its bytes exchanged", exchanged(300, 300), 14),
+        ("the most with their bytes exchanged", exchanged(MOST, MOST), 14),
+    ]
+}
+
+/// The layout itself, byte by byte.
+fn in_bytes() -> Vec<Known> {
+    let row = [2, 0, 44, 1, 0, 0, 0, 0, 1, 0, 0, 0, 1, 0, 0, 0];
+    let element = [0, 63, 0, 0, 0, 0, 0, 0, 1, 0, 0, 0, 1, 0, 0, 0];
+    let unbounded = [1, 7, 0, 0, 1, 0, 0, 0, 0, 0, 1, 0, 0, 0, 0, 0];
+    let items = |last: Record| [vec![element; 299], vec![last]].concat().concat();
+    let changed = |at: usize, value: u8| {
+        let mut last = unbounded;
+        last[at] = value;
+        [&row[..], &items(last)].concat()
+    };
+    vec![
+        ("300 items, byte by byte", [&row[..], &items(unbounded)].concat(), 0),
+        ("the record's byte 0", changed(0, 5), 10),
+        ("the record's byte 1", changed(1, 64), 10),
+        ("the record's byte 2", changed(2, 1), 10),
+        ("the record's byte 3", changed(3, 1), 10),
+        ("the record's byte 4, bounded", changed(4, 0), 11),
+        ("the record's byte 4", changed(4, 2), 10),
+        ("the record's byte 5", changed(5, 1), 10),
+        ("the record's byte 6", changed(6, 1), 10),
+        ("the record's byte 7", changed(7, 1), 10),
+        ("the record's byte 8", changed(8, 255), 0),
+        ("the record's byte 11", changed(11, 255), 0),
+        ("the record's byte 12", changed(12, 1), 10),
+        ("the record's byte 15", changed(15, 1), 10),
     ]
 }
 
@@ -128,10 +266,10 @@ fn lengths() -> Vec<Known> {
         let items = vec![Tree::leaf(Kind::Element, 5, (1, Some(1))); elements];
         Tree::group(kind, (1, Some(1)), items).encode()
     };
-    let most = row(Kind::Sequence, MOST_RECORDS - 1);
-    let over = row(Kind::Sequence, MOST_RECORDS);
+    let most = row(Kind::Sequence, MOST);
+    let over = row(Kind::Sequence, MOST + 1);
     let mut over_bad = over.clone();
-    over_bad[0] = 9;
+    over_bad[KIND] = 9;
     let mut longer = most.clone();
     longer.push(0);
     let mut broken_bad = one(9, 0, 0, 0, 1, 1);
@@ -139,16 +277,17 @@ fn lengths() -> Vec<Known> {
     vec![
         ("no record", Vec::new(), 14),
         ("1 byte", vec![0], 14),
-        ("11 bytes", vec![0; 11], 14),
-        ("13 bytes", vec![0; 13], 14),
+        ("a record without a byte", vec![0; RECORD - 1], 14),
+        ("a record and a byte", vec![0; RECORD + 1], 14),
         ("a broken record before a fault", broken_bad, 14),
-        ("255 records", most.clone(), 0),
-        ("255 records, an all-group", row(Kind::All, MOST_RECORDS - 1), 0),
-        ("255 records and a byte", longer, 14),
-        ("255 records without a byte", most[..most.len() - 1].to_vec(), 14),
-        ("256 records, whole", over, 14),
-        ("256 records, the first bad", over_bad, 14),
-        ("10000 bytes", vec![0; 10000], 14),
+        ("1000 records", most.clone(), 0),
+        ("1000 records, an all-group", row(Kind::All, MOST), 0),
+        ("1000 records and a byte", longer, 14),
+        ("1000 records without a byte", most[..most.len() - 1].to_vec(), 14),
+        ("1001 records, whole", over, 14),
+        ("1001 records, the first bad", over_bad, 14),
+        ("65536 records and one, all zeros", vec![0; 65537 * RECORD], 14),
+        ("100000 bytes", vec![0; 100_000], 14),
     ]
 }
 

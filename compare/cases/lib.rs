@@ -6,6 +6,7 @@ pub mod known_sheets;
 pub mod known_totals;
 pub mod known_trees;
 pub mod limits;
+mod record_counts;
 pub mod small_chains;
 pub mod small_trees;
 pub mod stated;

@@ -1,4 +1,4 @@
-//! Sheets at the limits, with their marks written down by hand: 255 records,
+//! Sheets at the limits, with their marks written down by hand: 1000 records,
 //! depth 12, 64 leaves, the numbers at which products turn, and the longest
 //! marking.
 
@@ -14,11 +14,14 @@ const MOST: usize = MOST_RECORDS - 1;
 
 pub fn stated() -> Vec<Stated> {
     let mut out = rows();
+    out.extend(alternatives());
+    out.extend(beyond_a_byte());
     out.extend(unordered());
     out.extend(depths());
     out.extend(leaves());
-    out.extend(numbers());
-    out.push(longest());
+    out.extend(products());
+    out.extend(totals());
+    out.push(("the longest marking", longest(MOST), "undecided"));
     out
 }
 
@@ -59,77 +62,115 @@ fn same(count: usize, pair: Pair) -> Vec<Tree> {
     vec![element(0, pair); count]
 }
 
+/// As many items as there may be: all but the last of one leaf.
+fn but_last(leaf: usize) -> Vec<Tree> {
+    let mut items = same(MOST - 1, ONCE);
+    items.push(element(leaf, ONCE));
+    items
+}
+
+/// As many items as there may be, of which the last alone is element 0.
+fn last_only() -> Vec<Tree> {
+    let mut items = vec![element(1, ONCE); MOST - 1];
+    items.push(element(0, ONCE));
+    items
+}
+
 /// Item rows of the greatest length, judged from end to end.
 fn rows() -> Vec<Stated> {
     let sequence = |items| group(Kind::Sequence, ONCE, items);
-    let choice = |pair, items| group(Kind::Choice, pair, items);
-    let but_last = |leaf| {
-        let mut items = same(MOST - 1, ONCE);
-        items.push(element(leaf, ONCE));
-        items
-    };
-    let last_only = || {
-        let mut items = vec![element(1, ONCE); MOST - 1];
-        items.push(element(0, ONCE));
-        items
-    };
     let full = || sequence(same(MOST, ONCE));
+    let less = || sequence(same(MOST - 1, ONCE));
+    let optional = || sequence(same(MOST, (0, Some(1))));
     vec![
-        ("255 records twice", sheet(full(), full()), "passes"),
-        ("the last of 254 items", sheet(sequence(but_last(1)), full()), "fails 140"),
-        ("254 items against 253", sheet(full(), sequence(same(MOST - 1, ONCE))), "fails 120"),
-        ("253 items against 254", sheet(sequence(same(MOST - 1, ONCE)), full()), "fails 121"),
-        (
-            "none against 254 optional items",
-            sheet(sequence(Vec::new()), sequence(same(MOST, (0, Some(1))))),
-            "passes",
-        ),
-        (
-            "the last of 254 alternatives",
-            sheet(choice(ONCE, but_last(1)), choice(ONCE, but_last(1))),
-            "passes",
-        ),
-        (
-            "an alternative after the last",
-            sheet(choice(ONCE, but_last(1)), choice(ONCE, but_last(2))),
-            "fails 120",
-        ),
-        (
-            "254 members, the last of 254 alternatives",
-            sheet(full(), choice((254, Some(254)), last_only())),
-            "passes",
-        ),
-        (
-            "254 members, at most 253",
-            sheet(full(), choice((0, Some(253)), last_only())),
-            "fails 116",
-        ),
-        (
-            "the last of 254 members",
-            sheet(sequence(but_last(2)), choice((0, None), last_only())),
-            "fails 117",
-        ),
-        ("254 members of a wildcard", sheet(full(), wildcard((254, Some(254)))), "passes"),
-        ("254 members, wildcard to 253", sheet(full(), wildcard((0, Some(253)))), "fails 113"),
-        ("one record against 255", sheet(element(0, ONCE), choice(ONCE, last_only())), "passes"),
-        ("255 records against one", sheet(full(), element(0, ONCE)), "fails 120"),
+        ("1000 records twice", sheet(full(), full()), "passes"),
+        ("the last of 999 items", sheet(sequence(but_last(1)), full()), "fails 140"),
+        ("999 items against 998", sheet(full(), less()), "fails 120"),
+        ("998 items against 999", sheet(less(), full()), "fails 121"),
+        ("none against 999 optional items", sheet(sequence(Vec::new()), optional()), "passes"),
+        ("999 members of a wildcard", sheet(full(), wildcard((999, Some(999)))), "passes"),
+        ("999 members, wildcard to 998", sheet(full(), wildcard((0, Some(998)))), "fails 113"),
+        ("1000 records against one", sheet(full(), element(0, ONCE)), "fails 120"),
     ]
 }
 
-/// All-groups of 254 elements, their leaves in turn over all 64.
-fn unordered() -> Vec<Stated> {
-    let names = || (0..MOST_LEAVES).map(|leaf| Leaf::element(255 * leaf as u16)).collect();
-    let items = |count: usize| (0..count).map(|k| element(k % MOST_LEAVES, ONCE));
-    let all = |items| group(Kind::All, ONCE, items);
-    let forth = |count| items(count).collect::<Vec<Tree>>();
-    let back = |count| items(count).rev().collect::<Vec<Tree>>();
-    let row = |items| group(Kind::Sequence, ONCE, items);
-    let on = |derived, base| over(names(), derived, base);
+/// The same against choices.
+fn alternatives() -> Vec<Stated> {
+    let members = |items| group(Kind::Sequence, ONCE, items);
+    let full = || members(same(MOST, ONCE));
+    let choice = |pair, items| group(Kind::Choice, pair, items);
+    let other = |leaf| choice(ONCE, but_last(leaf));
+    let last = |pair| choice(pair, last_only());
     vec![
-        ("254 elements in the other order", on(all(back(MOST)), all(forth(MOST))), "passes"),
-        ("a sequence of these", on(row(back(MOST)), all(forth(MOST))), "passes"),
-        ("the 254th missing", on(all(forth(MOST - 1)), all(forth(MOST))), "fails 109"),
-        ("the 254th not there", on(all(back(MOST)), all(forth(MOST - 1))), "fails 108"),
+        ("the last of 999 alternatives", sheet(other(1), other(1)), "passes"),
+        ("an alternative after the last", sheet(other(1), other(2)), "fails 120"),
+        (
+            "999 members, the last of 999 alternatives",
+            sheet(full(), last((999, Some(999)))),
+            "passes",
+        ),
+        ("999 members, at most 998", sheet(full(), last((0, Some(998)))), "fails 116"),
+        ("the last of 999 members", sheet(members(but_last(2)), last((0, None))), "fails 117"),
+        ("one record against 1000", sheet(element(0, ONCE), last(ONCE)), "passes"),
+    ]
+}
+
+/// Item rows whose length needs the second byte of a count.
+fn beyond_a_byte() -> Vec<Stated> {
+    let sequence = |count| group(Kind::Sequence, ONCE, same(count, ONCE));
+    let members = |count, base| sheet(sequence(count), group(Kind::Choice, base, same(1, ONCE)));
+    let choice = |leaf, count: usize| {
+        let mut items = same(count - 1, ONCE);
+        items.push(element(leaf, ONCE));
+        group(Kind::Choice, ONCE, items)
+    };
+    vec![
+        ("256 items twice", sheet(sequence(256), sequence(256)), "passes"),
+        ("256 items against none", sheet(sequence(256), sequence(0)), "fails 120"),
+        ("256 items against 255", sheet(sequence(256), sequence(255)), "fails 120"),
+        ("256 items against 257", sheet(sequence(256), sequence(257)), "fails 121"),
+        ("no items against 256", sheet(sequence(0), sequence(256)), "fails 121"),
+        ("257 items against 1", sheet(sequence(257), element(0, ONCE)), "fails 120"),
+        ("256 members", members(256, exact(256)), "passes"),
+        ("256 members, none asked", members(256, (0, Some(0))), "fails 116"),
+        ("700 members", members(700, exact(700)), "passes"),
+        ("700 members, 188 asked", members(700, (0, Some(188))), "fails 116"),
+        ("a member of 256 alternatives", sheet(element(1, ONCE), choice(1, 256)), "passes"),
+        ("a member of none of these", sheet(element(2, ONCE), choice(1, 256)), "fails 120"),
+        ("700 of a wildcard", sheet(sequence(700), wildcard(exact(700))), "passes"),
+        ("700 of a wildcard to 699", sheet(sequence(700), wildcard((0, Some(699)))), "fails 113"),
+    ]
+}
+
+/// Elements whose leaves are in turn all 64.
+fn in_turn(count: usize) -> Vec<Tree> {
+    (0..count).map(|k| element(k % MOST_LEAVES, ONCE)).collect()
+}
+
+/// A sheet over 64 elements of their own names.
+fn on_elements(derived: Tree, base: Tree) -> Sheet {
+    over((0..MOST_LEAVES).map(|leaf| Leaf::element(255 * leaf as u16)).collect(), derived, base)
+}
+
+/// A group of so many elements against an all-group of these in the other
+/// order.
+pub fn other_order(kind: Kind, count: usize) -> Sheet {
+    on_elements(group(kind, ONCE, back(count)), group(Kind::All, ONCE, in_turn(count)))
+}
+
+fn back(count: usize) -> Vec<Tree> {
+    in_turn(count).into_iter().rev().collect()
+}
+
+/// All-groups of 999 elements.
+fn unordered() -> Vec<Stated> {
+    let all = |items| group(Kind::All, ONCE, items);
+    let forth = |count| all(in_turn(count));
+    vec![
+        ("999 elements in the other order", other_order(Kind::All, MOST), "passes"),
+        ("a sequence of these", other_order(Kind::Sequence, MOST), "passes"),
+        ("the 999th missing", on_elements(forth(MOST - 1), forth(MOST)), "fails 109"),
+        ("the 999th not there", on_elements(all(back(MOST)), forth(MOST - 1)), "fails 108"),
     ]
 }
 
@@ -193,17 +234,39 @@ fn leaves() -> Vec<Stated> {
     ]
 }
 
-/// Products of a pair with an item count, and totals, about 4294967295.
-fn numbers() -> Vec<Stated> {
-    const TOP: u32 = 4294967295;
+const TOP: u32 = 4294967295;
+
+fn exact(number: u32) -> Pair {
+    (number, Some(number))
+}
+
+/// Products of a pair with an item count about 4294967295.
+fn products() -> Vec<Stated> {
     let times = |pair, count, base| {
         let members = group(Kind::Sequence, pair, same(count, ONCE));
         sheet(members, group(Kind::Choice, base, same(1, ONCE)))
     };
+    let half = 1 << 31;
+    vec![
+        ("twice 2147483647", times(exact(half - 1), 2, exact(TOP - 1)), "passes"),
+        ("twice 2147483648, too large", times(exact(half), 2, (TOP, None)), "passes"),
+        ("the same, a bounded base", times(exact(half), 2, (0, Some(TOP))), "fails 116"),
+        ("999 times 4299266", times(exact(4299266), 999, exact(4294966734)), "passes"),
+        ("999 times 4299267", times(exact(4299267), 999, (TOP, None)), "passes"),
+        ("999 times 4299267, bounded", times(exact(4299267), 999, (0, Some(TOP))), "fails 116"),
+        ("256 times 16777215", times(exact(16777215), 256, exact(4294967040)), "passes"),
+        ("256 times 16777216", times(exact(16777216), 256, (TOP, None)), "passes"),
+        ("256 times 16777216, bounded", times(exact(16777216), 256, (0, Some(TOP))), "fails 116"),
+        ("4294967295 times no items", times(exact(TOP), 0, exact(0)), "passes"),
+        ("unbounded times no items", times((0, None), 0, (0, Some(TOP))), "fails 116"),
+    ]
+}
+
+/// Totals about 4294967295, against a wildcard.
+fn totals() -> Vec<Stated> {
     let total =
         |pair, inner, base| sheet(group(Kind::Sequence, pair, same(1, inner)), wildcard(base));
-    let exact = |number| (number, Some(number));
-    let half = 1 << 31;
+    let square = |base| total(exact(65536), exact(65536), base);
     let some = |kind, base| {
         let large = group(Kind::Sequence, exact(65536), same(1, exact(65536)));
         sheet(group(kind, (0, Some(1)), vec![large, element(1, exact(5))]), wildcard(base))
@@ -212,22 +275,11 @@ fn numbers() -> Vec<Stated> {
         let items = vec![element(0, exact(TOP)), element(1, exact(last))];
         sheet(group(Kind::Sequence, ONCE, items), wildcard(base))
     };
+    let open = || sheet(element(0, (0, None)), element(0, (0, Some(TOP))));
     vec![
-        ("twice 2147483647", times(exact(half - 1), 2, exact(TOP - 1)), "passes"),
-        ("twice 2147483648, too large", times(exact(half), 2, (TOP, None)), "passes"),
-        ("the same, a bounded base", times(exact(half), 2, (0, Some(TOP))), "fails 116"),
-        ("254 times 16909320", times(exact(16909320), 254, exact(4294967280)), "passes"),
-        ("254 times 16909321", times(exact(16909321), 254, (TOP, None)), "passes"),
-        ("254 times 16909321, bounded", times(exact(16909321), 254, (0, Some(TOP))), "fails 116"),
-        ("4294967295 times no items", times(exact(TOP), 0, exact(0)), "passes"),
-        ("unbounded times no items", times((0, None), 0, (0, Some(TOP))), "fails 116"),
         ("65535 times 65537", total(exact(65535), exact(65537), exact(TOP)), "passes"),
-        ("65536 times 65536, too large", total(exact(65536), exact(65536), (TOP, None)), "passes"),
-        (
-            "the same, a bounded wildcard",
-            total(exact(65536), exact(65536), (0, Some(TOP))),
-            "fails 113",
-        ),
+        ("65536 times 65536, too large", square((TOP, None)), "passes"),
+        ("the same, a bounded wildcard", square((0, Some(TOP))), "fails 113"),
         ("a sum of 4294967295", sum(0, exact(TOP)), "passes"),
         ("a sum too large", sum(1, (TOP, None)), "passes"),
         ("a sum too large, bounded", sum(1, (TOP, Some(TOP))), "fails 113"),
@@ -237,18 +289,14 @@ fn numbers() -> Vec<Stated> {
         ("zero times too large, a minimum", some(Kind::Sequence, (1, None)), "fails 113"),
         ("unbounded times 0", total((0, None), (0, Some(0)), (0, Some(0))), "passes"),
         ("the largest pair", sheet(element(0, exact(TOP)), element(0, exact(TOP))), "passes"),
-        (
-            "one more than that",
-            sheet(element(0, (0, None)), element(0, (0, Some(TOP)))),
-            "fails 123",
-        ),
+        ("one more than that", open(), "fails 123"),
     ]
 }
 
 /// Every member is undecided at the bottom of a chain of choices, and each
 /// level asks for both readings: the number of judgements doubles each time.
-fn longest() -> Stated {
-    let members = group(Kind::Sequence, ONCE, same(MOST, ONCE));
+pub fn longest(members: usize) -> Sheet {
+    let members = group(Kind::Sequence, ONCE, same(members, ONCE));
     let chain = (2..MOST_DEPTH).fold(element(1, ONCE), |inner, _| {
         group(Kind::Choice, (0, Some(2)), vec![element(2, ONCE), inner])
     });
@@ -256,5 +304,5 @@ fn longest() -> Stated {
     let mut sheet = sheet(members, base);
     let at = sheet.at(0, 1);
     sheet.first[at] = 1;
-    ("the longest marking", sheet, "undecided")
+    sheet
 }

@@ -96,7 +96,9 @@ fn small(options: &Options, tally: &mut Tally) -> Result<(), Found> {
 fn random(options: &Options, tally: &mut Tally) -> Result<(), Found> {
     for case in 0..options.count {
         let mut rng = Rng::new(options.seed, case);
-        let bytes = chain::encode(&chains::chain(&mut rng));
+        let chain = chains::chain(&mut rng);
+        tally.wide += u64::from(chain.iter().flatten().any(Tree::is_wide));
+        let bytes = chain::encode(&chain);
         let refusal = second::chain::joined(&bytes).err();
         assert!(refusal.is_none_or(|refusal| refusal.number == 16), "a chain of ours is refused");
         tally.random += 1;

@@ -16,6 +16,8 @@ pub struct Tally {
     pub lengths: u64,
     pub small: u64,
     pub random: u64,
+    /// Random chains with a group of more items than a byte can count.
+    pub wide: u64,
     pub damaged: u64,
     pub longer: u64,
     /// Joined trees that were the base of a sheet.
@@ -63,6 +65,7 @@ impl Tally {
         let mut counts = vec![
             ("no content".into(), self.no_content),
             ("a base of a sheet".into(), self.bases),
+            ("a wide group".into(), self.wide),
             ("a joined tree of the most records".into(), self.most[0]),
             ("a joined tree of the most depth".into(), self.most[1]),
         ];
@@ -81,8 +84,9 @@ impl fmt::Display for Tally {
         let [records, depth] = self.most;
         write!(
             f,
-            "all equal: {} known chains, {} lengths, {} small chains, {} random chains, \
-             {} damaged chains; joined of one tree {lone}, of two {two}, of more {more} \
+            "all equal: {} known chains, {} lengths, {} small chains, {} random chains \
+             ({} of them wide), {} damaged chains; \
+             joined of one tree {lone}, of two {two}, of more {more} \
              (of the most records {records}, of the most depth {depth}, \
              base of a sheet {}); answers: joined {}, no content {}, refused {}; \
              {} longer chains, of which the original drops what it inherits",
@@ -90,6 +94,7 @@ impl fmt::Display for Tally {
             self.lengths,
             self.small,
             self.random,
+            self.wide,
             self.damaged,
             self.bases,
             self.written,

@@ -3,6 +3,7 @@
 //! numbers, and the command line.
 
 pub mod answers;
+pub mod bytes;
 pub mod chain;
 pub mod notation;
 pub mod options;

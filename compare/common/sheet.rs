@@ -4,17 +4,18 @@
 
 use std::ops::Range;
 
+use crate::bytes::{put_short, short};
 use crate::tree::{Kind, RECORD, Tree};
 
 pub const MOST_LEAVES: usize = 64;
 /// The contents, and the places of their fields.
 pub const CONTENTS: usize = 8;
 pub const LEAVES: usize = 0;
-pub const DERIVED: usize = 1;
-pub const BASE: usize = 2;
-pub const ZERO: usize = 3;
-/// 32 bits, as `tree::number` reads them.
-pub const TOTAL: usize = 4;
+pub const ZERO: usize = 1;
+/// 16 bits each, as `bytes::short` reads them.
+pub const DERIVED: usize = 2;
+pub const BASE: usize = 4;
+pub const TOTAL: usize = 6;
 /// A leaf, and the places of its fields.
 pub const LEAF_BYTES: usize = 4;
 pub const LEAF_KIND: usize = 0;
@@ -63,7 +64,7 @@ impl Sheet {
             let mut bytes = [0; LEAF_BYTES];
             bytes[LEAF_KIND] = leaf.kind as u8;
             bytes[PROCESSING] = leaf.processing;
-            bytes[NAME..NAME + 2].copy_from_slice(&leaf.name.to_le_bytes());
+            put_short(&mut bytes, NAME, leaf.name.into());
             bytes
         });
         let bodies = Bodies {
@@ -82,7 +83,7 @@ impl Sheet {
         let leaves = bodies.leaves.chunks_exact(LEAF_BYTES).map(|leaf| Leaf {
             kind: Kind::EVERY[usize::from(leaf[LEAF_KIND])],
             processing: leaf[PROCESSING],
-            name: u16::from_le_bytes([leaf[NAME], leaf[NAME + 1]]),
+            name: short(leaf, NAME),
         });
         Sheet {
             leaves: leaves.collect(),
@@ -103,20 +104,45 @@ pub struct Places {
     pub base: Range<usize>,
 }
 
-/// The places for so many leaves, derived records and base records.
-pub fn places(leaves: u8, derived: u8, base: u8) -> Places {
-    let n = usize::from(leaves);
-    let mut at = CONTENTS;
-    let mut body = |length| {
-        at += length;
-        at - length..at
-    };
-    Places {
-        leaves: body(LEAF_BYTES * n),
-        first: body(n * n),
-        second: body(n * n),
-        derived: body(RECORD * usize::from(derived)),
-        base: body(RECORD * usize::from(base)),
+/// What the contents count: leaves, derived records, base records.
+#[derive(Debug, Clone, Copy)]
+pub struct Counts {
+    pub leaves: usize,
+    pub derived: usize,
+    pub base: usize,
+}
+
+impl Counts {
+    /// The counts of a string that has contents, good or not.
+    pub fn read(bytes: &[u8]) -> Counts {
+        Counts {
+            leaves: bytes[LEAVES].into(),
+            derived: short(bytes, DERIVED).into(),
+            base: short(bytes, BASE).into(),
+        }
+    }
+
+    /// A count that its field has no room for keeps its lowest bits.
+    pub fn put(self, bytes: &mut [u8]) {
+        bytes[LEAVES] = self.leaves as u8;
+        put_short(bytes, DERIVED, self.derived);
+        put_short(bytes, BASE, self.base);
+    }
+
+    pub fn places(self) -> Places {
+        let n = self.leaves;
+        let mut at = CONTENTS;
+        let mut body = |length| {
+            at += length;
+            at - length..at
+        };
+        Places {
+            leaves: body(LEAF_BYTES * n),
+            first: body(n * n),
+            second: body(n * n),
+            derived: body(RECORD * self.derived),
+            base: body(RECORD * self.base),
+        }
     }
 }
 
@@ -131,24 +157,27 @@ pub struct Bodies {
 }
 
 impl Bodies {
-    /// Contents that count the bodies, then the bodies. A count that needs
-    /// more than a byte keeps its lowest.
+    /// Contents that count the bodies, then the bodies. A count or a total that
+    /// its field has no room for keeps its lowest bits.
     pub fn join(&self) -> Vec<u8> {
+        let counts = Counts {
+            leaves: self.leaves.len() / LEAF_BYTES,
+            derived: self.derived.len() / RECORD,
+            base: self.base.len() / RECORD,
+        };
         let mut out = vec![0; CONTENTS];
-        out[LEAVES] = (self.leaves.len() / LEAF_BYTES) as u8;
-        out[DERIVED] = (self.derived.len() / RECORD) as u8;
-        out[BASE] = (self.base.len() / RECORD) as u8;
+        counts.put(&mut out);
         for body in [&self.leaves, &self.first, &self.second, &self.derived, &self.base] {
             out.extend_from_slice(body);
         }
-        let total = out.len() as u32;
-        out[TOTAL..TOTAL + 4].copy_from_slice(&total.to_le_bytes());
+        let total = out.len();
+        put_short(&mut out, TOTAL, total);
         out
     }
 
     /// The bodies of a sheet whose contents are good.
     pub fn split(bytes: &[u8]) -> Bodies {
-        let places = places(bytes[LEAVES], bytes[DERIVED], bytes[BASE]);
+        let places = Counts::read(bytes).places();
         let body = |place: Range<usize>| bytes[place].to_vec();
         Bodies {
             leaves: body(places.leaves),

@@ -1,16 +1,23 @@
 //! A tree of document 01, and its records: written out, and read back from
 //! bytes that are known to be accepted. The record's layout stands here only.
 
-pub const RECORD: usize = 12;
-pub const MOST_RECORDS: usize = 255;
+use std::ops::Range;
+
+use crate::bytes::{number, put_number, put_short, short};
+
+pub const RECORD: usize = 16;
+pub const MOST_RECORDS: usize = 1000;
 pub const MOST_DEPTH: usize = 12;
 /// Places of a record's fields.
 pub const KIND: usize = 0;
 pub const LEAF: usize = 1;
+/// 16 bits, which `count` reads.
 pub const COUNT: usize = 2;
-pub const MARK: usize = 3;
-pub const MIN: usize = 4;
-pub const MAX: usize = 8;
+pub const MARK: usize = 4;
+pub const ZEROS: Range<usize> = 5..8;
+/// 32 bits each, as `bytes::number` reads them.
+pub const MIN: usize = 8;
+pub const MAX: usize = 12;
 
 #[derive(Debug, Clone, Copy, PartialEq, Eq)]
 pub enum Kind {
@@ -60,6 +67,11 @@ impl Tree {
         1 + self.items.iter().map(Tree::depth).max().unwrap_or(0)
     }
 
+    /// Whether a group has more items than a byte can count.
+    pub fn is_wide(&self) -> bool {
+        self.items.len() > u8::MAX.into() || self.items.iter().any(Tree::is_wide)
+    }
+
     /// The record `k` (from 0) with what is below it.
     pub fn record(&mut self, k: usize) -> &mut Tree {
         if k == 0 {
@@ -83,12 +95,9 @@ impl Tree {
     }
 
     fn write(&self, out: &mut Vec<u8>) {
-        let count = u8::try_from(self.items.len()).expect("at most 255 items");
-        let mut record = [0; RECORD];
-        record[KIND] = self.kind as u8;
+        let mut record = record(self.kind, self.items.len(), self.pair);
+        assert!(count(&record) == self.items.len(), "more items than a count can tell");
         record[LEAF] = self.leaf;
-        record[COUNT] = count;
-        put_pair(&mut record, self.pair);
         out.extend(record);
         for item in &self.items {
             item.write(out);
@@ -105,24 +114,44 @@ impl Tree {
 
     fn read<'a>(records: &mut impl Iterator<Item = &'a [u8]>) -> Tree {
         let record = records.next().expect("a record");
-        let max = (record[MARK] == 0).then(|| number(record, MAX));
         Tree {
             kind: Kind::EVERY[usize::from(record[KIND])],
             leaf: record[LEAF],
-            pair: (number(record, MIN), max),
-            items: (0..record[COUNT]).map(|_| Tree::read(records)).collect(),
+            pair: pair(record),
+            items: (0..count(record)).map(|_| Tree::read(records)).collect(),
         }
     }
 }
 
-/// The 32-bit number at a place of a record.
-pub fn number(record: &[u8], place: usize) -> u32 {
-    u32::from_le_bytes(record[place..place + 4].try_into().expect("four bytes"))
+/// A record with these fields, and all others 0.
+pub fn record(kind: Kind, count: usize, pair: Pair) -> [u8; RECORD] {
+    let mut record = [0; RECORD];
+    record[KIND] = kind as u8;
+    put_count(&mut record, count);
+    put_pair(&mut record, pair);
+    record
+}
+
+/// The item count of a record.
+#[inline]
+pub fn count(record: &[u8]) -> usize {
+    short(record, COUNT).into()
+}
+
+/// A count that the field has no room for keeps its lowest bits.
+pub fn put_count(record: &mut [u8], count: usize) {
+    put_short(record, COUNT, count);
+}
+
+/// Minimum and maximum of an accepted record.
+#[inline]
+pub fn pair(record: &[u8]) -> Pair {
+    (number(record, MIN), (record[MARK] == 0).then(|| number(record, MAX)))
 }
 
 /// Sets minimum, maximum and unbounded mark of a record.
 pub fn put_pair(record: &mut [u8], (min, max): Pair) {
     record[MARK] = max.is_none().into();
-    record[MIN..MIN + 4].copy_from_slice(&min.to_le_bytes());
-    record[MAX..MAX + 4].copy_from_slice(&max.unwrap_or(0).to_le_bytes());
+    put_number(record, MIN, min);
+    put_number(record, MAX, max.unwrap_or(0));
 }

@@ -10,10 +10,11 @@ use common::tree::{Kind, MOST_DEPTH, MOST_RECORDS, Tree};
 use crate::{leaves, sheets, trees};
 
 pub fn chain(rng: &mut Rng) -> Chain {
-    let mut present = match rng.below(10) {
-        0 => about_most_records(rng),
-        1 => about_most_depth(rng),
-        2 => any(rng),
+    let mut present = match rng.below(40) {
+        0 => about(rng, MOST_RECORDS),
+        1..4 => about(rng, 256),
+        4..8 => about_most_depth(rng),
+        8..12 => any(rng),
         _ => small(rng),
     };
     if rng.one_in(2) {
@@ -74,10 +75,11 @@ fn within(rng: &mut Rng, records: Vec<usize>) -> Vec<Tree> {
     records.into_iter().enumerate().map(tree).collect()
 }
 
-/// The joined tree has about as many records as it may have.
-fn about_most_records(rng: &mut Rng) -> Vec<Tree> {
+/// The joined tree has about so many records: as it may have, or as need the
+/// second byte of a count.
+fn about(rng: &mut Rng, records: usize) -> Vec<Tree> {
     let present = rng.within(2, 9);
-    let joined = rng.pick(&[MOST_RECORDS - 1, MOST_RECORDS, MOST_RECORDS, MOST_RECORDS + 1]);
+    let joined = rng.pick(&[records - 1, records, records, records + 1]);
     let mut records = vec![1; present];
     let heir = rng.below(present);
     for _ in 2 * present - 1..joined {

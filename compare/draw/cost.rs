@@ -4,11 +4,22 @@ use common::tree::{Kind, MOST_DEPTH, Tree};
 use oracle::bridge::{self, Leaves};
 use oracle::doors;
 
+/// What the oracle may be asked in one sheet: so many judgements, or so many
+/// for each pair of a derived and a base record if that is more.
+const MOST_JUDGEMENTS: u64 = 500_000;
+const MOST_A_PAIR: u64 = 16;
+
+/// The sheet does not keep the oracle for long.
+pub fn is_small(derived: &Tree, base: &Tree) -> bool {
+    let pairs = (derived.records() * base.records()) as u64;
+    judgements(derived, base) <= MOST_JUDGEMENTS.max(MOST_A_PAIR * pairs)
+}
+
 /// At least as many times as the rule is entered. A derived record meets the
 /// base records of its own depth once, and those above it if they are leaves.
 /// An element meets a group twice with each of its items, once in each
 /// reading: twice as often for each level that the base record is below it.
-pub fn judgements(derived: &Tree, base: &Tree) -> u64 {
+fn judgements(derived: &Tree, base: &Tree) -> u64 {
     let most = (derived.records() * base.records()) << base.depth();
     if most < 10_000 {
         return most as u64;

@@ -2,9 +2,10 @@
 //! damaged first, several of them at once, and the counts fit what is there;
 //! then the chain's bytes are damaged as they stand.
 
-use common::chain::{self, COUNT_BYTES, COUNTS, LEVELS, MOST_LEVELS};
+use common::bytes::{exchange, put_short, short};
+use common::chain::{self, COUNT_BYTES, LEVELS, MOST_LEVELS, count_place};
 use common::random::Rng;
-use common::tree::{MOST_RECORDS, RECORD};
+use common::tree::{KIND, MOST_RECORDS, RECORD};
 
 use crate::{chains, damaged_trees, trees};
 
@@ -30,11 +31,12 @@ pub fn chain(rng: &mut Rng) -> Vec<u8> {
 /// A few bytes or none, some of them with levels and a length that fit.
 fn noise(rng: &mut Rng) -> Vec<u8> {
     let mut bytes: Vec<u8> = (0..rng.below(60)).map(|_| rng.byte()).collect();
-    if bytes.len() > COUNTS + COUNT_BYTES && rng.one_in(2) {
+    let start = count_place(1);
+    if bytes.len() > start && rng.one_in(2) {
         bytes[LEVELS] = 1;
-        let records = (bytes.len() - COUNTS - COUNT_BYTES) / RECORD;
-        bytes[COUNTS..COUNTS + COUNT_BYTES].copy_from_slice(&(records as u16).to_le_bytes());
-        bytes.truncate(COUNTS + COUNT_BYTES + RECORD * records);
+        let records = (bytes.len() - start) / RECORD;
+        put_short(&mut bytes, count_place(0), records);
+        bytes.truncate(start + RECORD * records);
     }
     bytes
 }
@@ -88,7 +90,7 @@ fn too_long(rng: &mut Rng, levels: &mut Vec<Vec<u8>>) {
     let mut own = trees::tree_of(rng, MOST_RECORDS + 1).encode();
     own.resize(RECORD * rng.pick(&[MOST_RECORDS + 1, MOST_RECORDS + 2, 2 * MOST_RECORDS]), 0);
     if rng.one_in(2) {
-        own[0] = rng.byte();
+        own[KIND] = rng.byte();
     }
     *some(rng, levels) = own;
 }
@@ -139,46 +141,43 @@ fn level_count(rng: &mut Rng, bytes: &mut Vec<u8>) {
         rng.pick(&[0, near.wrapping_add(1), near.wrapping_sub(1), most, most + 1, 128, 255]);
 }
 
-/// Where one of the counts stands; those of a written chain do.
-fn some_count(rng: &mut Rng, bytes: &[u8]) -> usize {
-    COUNTS + COUNT_BYTES * rng.below(bytes[LEVELS].max(1).into())
+/// Where one of the counts stands, if the chain is long enough.
+fn some_count(rng: &mut Rng, bytes: &[u8]) -> Option<usize> {
+    let at = count_place(rng.below(bytes[LEVELS].max(1).into()));
+    (at + COUNT_BYTES <= bytes.len()).then_some(at)
 }
 
 /// A count that is unlike the level, now and then with a length that fits.
 fn count(rng: &mut Rng, bytes: &mut Vec<u8>) {
-    let at = some_count(rng, bytes);
-    let Some(&[low, high]) = bytes.get(at..at + COUNT_BYTES) else { return };
-    let before = u16::from_le_bytes([low, high]);
-    let near = [before.wrapping_add(1), before.saturating_sub(1)];
-    let after = rng.pick(&[near[0], near[1], 0, 255, 256, before | 256, 65535]);
-    bytes[at..at + COUNT_BYTES].copy_from_slice(&after.to_le_bytes());
-    if rng.one_in(2) {
-        let (before, after) = (usize::from(before), usize::from(after));
+    let Some(at) = some_count(rng, bytes) else { return };
+    let before = usize::from(short(bytes, at));
+    let near = [before + 1, before.saturating_sub(1), before | 256];
+    let after = rng.pick(&[0, 255, 256, MOST_RECORDS, MOST_RECORDS + 1, 65535]);
+    let after = if rng.one_in(2) { rng.pick(&near) } else { after };
+    put_short(bytes, at, after);
+    if rng.one_in(2) && after <= 2 * MOST_RECORDS {
         bytes.resize((bytes.len() + RECORD * after).saturating_sub(RECORD * before), 0);
     }
 }
 
 fn exchange_bytes(rng: &mut Rng, bytes: &mut Vec<u8>) {
-    let at = some_count(rng, bytes);
-    if at + 1 < bytes.len() {
-        bytes.swap(at, at + 1);
+    if let Some(at) = some_count(rng, bytes) {
+        exchange(bytes, at);
     }
 }
 
 /// The counts of two levels: the trees are read in the wrong places.
 fn exchange_counts(rng: &mut Rng, bytes: &mut Vec<u8>) {
-    let (a, b) = (some_count(rng, bytes), some_count(rng, bytes));
-    for place in 0..COUNT_BYTES {
-        if a.max(b) + place < bytes.len() {
-            bytes.swap(a + place, b + place);
-        }
+    if let (Some(a), Some(b)) = (some_count(rng, bytes), some_count(rng, bytes)) {
+        let (of_a, of_b) = (short(bytes, a), short(bytes, b));
+        put_short(bytes, a, of_b.into());
+        put_short(bytes, b, of_a.into());
     }
 }
 
 /// A level goes, but not its records.
 fn drop_count(rng: &mut Rng, bytes: &mut Vec<u8>) {
-    let at = some_count(rng, bytes);
-    if at + COUNT_BYTES <= bytes.len() {
+    if let Some(at) = some_count(rng, bytes) {
         bytes.drain(at..at + COUNT_BYTES);
         bytes[LEVELS] = bytes[LEVELS].wrapping_sub(1);
     }

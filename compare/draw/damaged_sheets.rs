@@ -2,14 +2,15 @@
 //! damaged first, several of them at once, and the contents count what is
 //! there; then the sheet's bytes are damaged as they stand.
 
+use common::bytes::{exchange, put_short, short};
 use common::random::Rng;
 use common::sheet::{
-    BASE, Bodies, CONTENTS, DERIVED, LEAF_BYTES, LEAF_KIND, LEAVES, NAME, PROCESSING, Sheet, TOTAL,
-    ZERO, places,
+    BASE, Bodies, CONTENTS, Counts, DERIVED, LEAF_BYTES, LEAF_KIND, LEAVES, MOST_LEAVES, NAME,
+    PROCESSING, Sheet, TOTAL, ZERO,
 };
-use common::tree::{KIND, LEAF, RECORD};
+use common::tree::{KIND, LEAF, MOST_RECORDS, RECORD};
 
-use crate::sheets::{self, MOST_JUDGEMENTS, Size};
+use crate::sheets::{self, Size};
 use crate::{cost, damaged_trees};
 
 pub fn sheet(rng: &mut Rng) -> Vec<u8> {
@@ -19,7 +20,7 @@ pub fn sheet(rng: &mut Rng) -> Vec<u8> {
             return bytes;
         }
         let sheet = Sheet::decode(&bytes);
-        if cost::judgements(&sheet.derived, &sheet.base) <= MOST_JUDGEMENTS {
+        if cost::is_small(&sheet.derived, &sheet.base) {
             return bytes;
         }
     }
@@ -47,7 +48,8 @@ fn draw(rng: &mut Rng) -> Vec<u8> {
 fn noise(rng: &mut Rng) -> Vec<u8> {
     let mut bytes: Vec<u8> = (0..rng.below(60)).map(|_| rng.byte()).collect();
     if bytes.len() >= CONTENTS && rng.one_in(2) {
-        (bytes[LEAVES], bytes[DERIVED], bytes[BASE]) = (1, 1, 1);
+        Counts { leaves: 1, derived: 1, base: 1 }.put(&mut bytes);
+        bytes[ZERO] = 0;
         reframe(&mut bytes);
     }
     bytes
@@ -71,8 +73,21 @@ const IN_BODIES: [InBodies; 12] = [
     |rng, bodies| leaf_number(rng, &bodies.leaves, &mut bodies.derived),
 ];
 
-const IN_BYTES: [InBytes; 9] =
-    [flip, flip, overwrite, truncate, append, count, count, total, other_counts];
+const IN_BYTES: [InBytes; 13] = [
+    flip,
+    flip,
+    overwrite,
+    truncate,
+    append,
+    leaf_count,
+    record_count,
+    record_count,
+    exchange_bytes,
+    exchange_counts,
+    zero,
+    total,
+    other_counts,
+];
 
 /// A field of a leaf that the leaf may not have.
 fn bad_leaf(rng: &mut Rng, bodies: &mut Bodies) {
@@ -150,35 +165,61 @@ fn append(rng: &mut Rng, bytes: &mut Vec<u8>) {
     }
 }
 
-/// A field of the contents, out of its range or unlike the bodies.
-fn count(rng: &mut Rng, bytes: &mut Vec<u8>) {
-    let place = rng.pick(&[LEAVES, DERIVED, BASE, ZERO]);
-    let near = [bytes[place].wrapping_add(1), bytes[place].wrapping_sub(1), 0, 64, 65, 255];
-    bytes[place] = rng.pick(&near);
+/// A leaf count that is out of its range or unlike the bodies.
+fn leaf_count(rng: &mut Rng, bytes: &mut Vec<u8>) {
+    bytes[LEAVES] = near(rng, bytes[LEAVES].into(), MOST_LEAVES) as u8;
+}
+
+/// A record count of this kind.
+fn record_count(rng: &mut Rng, bytes: &mut Vec<u8>) {
+    let place = rng.pick(&[DERIVED, BASE]);
+    let count = near(rng, short(bytes, place).into(), MOST_RECORDS);
+    put_short(bytes, place, count);
+}
+
+/// One more or one less than a count, or a number about the least and the most.
+fn near(rng: &mut Rng, count: usize, most: usize) -> usize {
+    rng.pick(&[count + 1, count.saturating_sub(1), 0, 1, 2, most, most + 1, 255, 256, count + 256])
+}
+
+/// Of a record count or of the total.
+fn exchange_bytes(rng: &mut Rng, bytes: &mut Vec<u8>) {
+    exchange(bytes, rng.pick(&[DERIVED, BASE, TOTAL]));
+}
+
+/// The total is the same: the trees are read in the wrong places.
+fn exchange_counts(_: &mut Rng, bytes: &mut Vec<u8>) {
+    let Counts { leaves, derived, base } = Counts::read(bytes);
+    Counts { leaves, derived: base, base: derived }.put(bytes);
+}
+
+fn zero(rng: &mut Rng, bytes: &mut Vec<u8>) {
+    bytes[ZERO] = if rng.one_in(2) { rng.byte() } else { rng.pick(&[1, 128, 255]) };
 }
 
 fn total(rng: &mut Rng, bytes: &mut Vec<u8>) {
-    let place = TOTAL + rng.below(4);
+    let place = TOTAL + rng.below(2);
     bytes[place] = bytes[place].wrapping_add(rng.pick(&[1, 255, 128]));
 }
 
 /// Other counts with the total and length that they ask for: the bodies are
 /// read in the wrong places.
 fn other_counts(rng: &mut Rng, bytes: &mut Vec<u8>) {
-    let place = rng.pick(&[LEAVES, DERIVED, BASE]);
-    bytes[place] = match rng.below(3) {
-        0 => bytes[place].wrapping_add(1),
-        1 => bytes[place].wrapping_sub(1),
-        _ => rng.pick(&[0, 1, 2, 64, 65]),
-    };
+    let mut counts = Counts::read(bytes);
+    match rng.below(3) {
+        0 => counts.leaves = near(rng, counts.leaves, MOST_LEAVES) % 256,
+        1 => counts.derived = near(rng, counts.derived, MOST_RECORDS),
+        _ => counts.base = near(rng, counts.base, MOST_RECORDS),
+    }
+    counts.put(bytes);
     reframe(bytes);
 }
 
 /// Sets total and length to what the counts ask for.
 fn reframe(bytes: &mut Vec<u8>) {
-    let length = places(bytes[LEAVES], bytes[DERIVED], bytes[BASE]).base.end;
+    let length = Counts::read(bytes).places().base.end;
     bytes.resize(length, 0);
-    bytes[TOTAL..TOTAL + 4].copy_from_slice(&(length as u32).to_le_bytes());
+    put_short(bytes, TOTAL, length);
 }
 
 /// One of the parts of so many bytes; there is one.

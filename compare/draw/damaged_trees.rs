@@ -1,22 +1,39 @@
 //! Byte strings that are mostly no trees: damaged copies of good ones, noise,
 //! and strings of the lengths at which the reading turns.
 
+use common::bytes::{self, number};
 use common::random::Rng;
-use common::tree::{COUNT, KIND, Kind, LEAF, MARK, MAX, MIN, Pair, RECORD, number, put_pair};
+use common::sheet::MOST_LEAVES;
+use common::tree::{
+    self, COUNT, KIND, Kind, LEAF, MARK, MAX, MIN, MOST_RECORDS, Pair, RECORD, ZEROS, put_count,
+    put_pair,
+};
 
 use crate::trees;
 
-const LENGTHS: [usize; 10] = [0, 1, 11, 12, 13, 3059, 3060, 3061, 3072, 10000];
+const LONGEST: usize = RECORD * MOST_RECORDS;
+const LENGTHS: [usize; 10] = [
+    0,
+    1,
+    RECORD - 1,
+    RECORD,
+    RECORD + 1,
+    LONGEST - 1,
+    LONGEST,
+    LONGEST + 1,
+    LONGEST + RECORD,
+    2 * LONGEST,
+];
 
 pub fn string(rng: &mut Rng) -> Vec<u8> {
-    match rng.below(20) {
-        0 => of_length(rng),
-        1 => of_size(rng),
-        2 => {
+    match rng.below(80) {
+        0..2 => of_length(rng),
+        2..4 => of_size(rng),
+        4..8 => {
             let length = rng.below(400);
             noise(rng, length)
         }
-        3..8 => nearly(rng),
+        8..30 => nearly(rng),
         _ => {
             let mut bytes = trees::tree(rng).encode();
             for _ in 0..rng.pick(&[1, 1, 1, 2, 3]) {
@@ -39,7 +56,7 @@ fn of_length(rng: &mut Rng) -> Vec<u8> {
         0 => Vec::new(),
         1 => noise(rng, length),
         _ => {
-            let records = rng.within(1, 255);
+            let records = rng.within(1, MOST_RECORDS);
             trees::tree_of(rng, records).encode()
         }
     };
@@ -47,10 +64,10 @@ fn of_length(rng: &mut Rng) -> Vec<u8> {
     bytes
 }
 
-/// Whole trees of 254 to 256 records, and 257.
+/// Whole trees about the most records and one over, and two over.
 fn of_size(rng: &mut Rng) -> Vec<u8> {
-    let records = rng.within(254, 257);
-    let mut bytes = trees::tree_of(rng, records.min(256)).encode();
+    let records = rng.within(MOST_RECORDS - 1, MOST_RECORDS + 2);
+    let mut bytes = trees::tree_of(rng, records.min(MOST_RECORDS + 1)).encode();
     bytes.resize(records * RECORD, 0);
     bytes
 }
@@ -64,20 +81,18 @@ fn nearly(rng: &mut Rng) -> Vec<u8> {
     let all_chance = rng.pick(&[2, 12]);
     let mut out = Vec::new();
     for _ in 0..rng.within(1, 30) {
-        let mut record = [0; RECORD];
-        record[KIND] = match rng.below(12) {
-            0..5 => Kind::Element as u8,
-            5 => Kind::Wildcard as u8,
-            _ if rng.one_in(all_chance) => Kind::All as u8,
-            _ => rng.pick(&[Kind::Sequence, Kind::Choice]) as u8,
+        let kind = match rng.below(12) {
+            0..5 => Kind::Element,
+            5 => Kind::Wildcard,
+            _ if rng.one_in(all_chance) => Kind::All,
+            _ => rng.pick(&[Kind::Sequence, Kind::Choice]),
         };
-        match record[KIND] {
-            0 | 1 => record[LEAF] = rng.below(64) as u8,
-            _ => record[COUNT] = rng.pick(&[0, 1, 1, 1, 2, 2, 3]),
+        let count = if kind.is_leaf() { 0 } else { rng.pick(&[0, 1, 1, 1, 2, 2, 3]) };
+        let pair = if kind == Kind::All { (1, Some(1)) } else { rng.pick(&PAIRS) };
+        let mut record = tree::record(kind, count, pair);
+        if kind.is_leaf() {
+            record[LEAF] = rng.below(MOST_LEAVES) as u8;
         }
-        let is_all = record[KIND] == Kind::All as u8;
-        let pair = rng.pick(&PAIRS);
-        put_pair(&mut record, if is_all { (1, Some(1)) } else { pair });
         if rng.one_in(20) {
             rng.pick(&RECORD_DAMAGES)(rng, &mut record);
         }
@@ -112,8 +127,19 @@ const DAMAGES: [Damage; 17] = [
     one_record,
 ];
 
-const RECORD_DAMAGES: [RecordDamage; 8] =
-    [count, mark, maximum_beside_mark, minimum_above, kind, leaf, all_pair, pair];
+const RECORD_DAMAGES: [RecordDamage; 11] = [
+    count,
+    high_count,
+    exchange_count,
+    mark,
+    zero,
+    maximum_beside_mark,
+    minimum_above,
+    kind,
+    leaf,
+    all_pair,
+    pair,
+];
 
 fn flip(rng: &mut Rng, bytes: &mut Vec<u8>) {
     if !bytes.is_empty() {
@@ -140,7 +166,7 @@ fn drop_last(rng: &mut Rng, bytes: &mut Vec<u8>) {
 }
 
 fn append_bytes(rng: &mut Rng, bytes: &mut Vec<u8>) {
-    let length = rng.within(1, 25);
+    let length = rng.within(1, 2 * RECORD + 1);
     let more = noise(rng, length);
     bytes.extend(more);
 }
@@ -181,11 +207,8 @@ fn deepen(rng: &mut Rng, bytes: &mut Vec<u8>) {
         _ => 0,
     };
     for _ in 0..rng.within(1, 13) {
-        let mut group = [0; RECORD];
-        group[KIND] = rng.pick(&[Kind::Sequence, Kind::Choice]) as u8;
-        group[COUNT] = 1;
-        put_pair(&mut group, (1, Some(1)));
-        bytes.splice(at..at, group);
+        let kind = rng.pick(&[Kind::Sequence, Kind::Choice]);
+        bytes.splice(at..at, tree::record(kind, 1, (1, Some(1))));
     }
 }
 
@@ -200,9 +223,9 @@ fn to_all(rng: &mut Rng, bytes: &mut Vec<u8>) {
 
 /// Makes an item of an all-group another kind than an element.
 fn item_of_all(rng: &mut Rng, bytes: &mut Vec<u8>) {
-    let full = |record: &[u8]| record[KIND] == Kind::All as u8 && record[COUNT] > 0;
+    let full = |record: &[u8]| record[KIND] == Kind::All as u8 && tree::count(record) > 0;
     if let Some(at) = random_start_of(rng, bytes, full) {
-        let item = at + RECORD * rng.within(1, bytes[at + COUNT].into());
+        let item = at + RECORD * rng.within(1, tree::count(&bytes[at..]));
         if let Some(record) = bytes.get_mut(item..item + RECORD) {
             record[KIND] = rng.pick(&[1, 1, 2, 3, 4]);
             if record[KIND] > 1 {
@@ -218,9 +241,26 @@ fn one_record(rng: &mut Rng, bytes: &mut Vec<u8>) {
     }
 }
 
+/// One more or one less, or any number; 65535 is one less than 0.
 fn count(rng: &mut Rng, record: &mut [u8]) {
-    let near = [record[COUNT].wrapping_add(1), record[COUNT].wrapping_sub(1)];
-    record[COUNT] = if rng.one_in(4) { rng.byte() } else { rng.pick(&near) };
+    let count = tree::count(record);
+    let near = [count + 1, count.wrapping_sub(1)];
+    let any = [rng.below(256), rng.next() as usize];
+    put_count(record, if rng.one_in(4) { rng.pick(&any) } else { rng.pick(&near) });
+}
+
+/// The count's higher byte alone.
+fn high_count(rng: &mut Rng, record: &mut [u8]) {
+    record[COUNT + 1] = rng.pick(&[0, 1, 1, 2, 3, 128, 255]);
+}
+
+fn exchange_count(_: &mut Rng, record: &mut [u8]) {
+    bytes::exchange(record, COUNT);
+}
+
+fn zero(rng: &mut Rng, record: &mut [u8]) {
+    let place = rng.within(ZEROS.start, ZEROS.end - 1);
+    record[place] = if rng.one_in(2) { rng.byte() } else { rng.pick(&[1, 128, 255]) };
 }
 
 fn mark(rng: &mut Rng, record: &mut [u8]) {
@@ -243,7 +283,8 @@ fn kind(rng: &mut Rng, record: &mut [u8]) {
 }
 
 fn leaf(rng: &mut Rng, record: &mut [u8]) {
-    record[LEAF] = rng.pick(&[0, 1, 63, 64, 65, 128, 255]);
+    let most = MOST_LEAVES as u8;
+    record[LEAF] = rng.pick(&[0, 1, most - 1, most, most + 1, 128, 255]);
 }
 
 fn all_pair(rng: &mut Rng, record: &mut [u8]) {

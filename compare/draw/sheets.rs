@@ -1,4 +1,4 @@
-//! Random accepted sheets: 1 to 64 leaves, trees of 1 to 255 records and depth
+//! Random accepted sheets: 1 to 64 leaves, trees of 1 to 1000 records and depth
 //! up to 12. Most derived trees are made from the base tree (narrow.rs), and
 //! many of these are then spoiled in one place (spoil.rs).
 
@@ -10,26 +10,38 @@ use crate::leaves::{self, Paper};
 use crate::narrow::Narrower;
 use crate::{change, cost, disguise, spoil, trees};
 
-/// What the oracle may be asked in one sheet (cost.rs).
-pub const MOST_JUDGEMENTS: u64 = 500_000;
-
 #[derive(Clone, Copy, PartialEq)]
 pub enum Size {
     /// Trees of few records over few leaves.
     Small,
     Any,
+    /// Both trees have so many records, from the first number to the second.
+    Between(usize, usize),
+}
+
+impl Size {
+    fn fits(self, tree: &Tree) -> bool {
+        match self {
+            Size::Between(least, most) => (least..=most).contains(&tree.records()),
+            Size::Small | Size::Any => true,
+        }
+    }
 }
 
 pub fn sheet(rng: &mut Rng, size: Size) -> Sheet {
+    let apart = rng.one_in(8);
     loop {
-        let sheet = draw(rng, size);
-        if cost::judgements(&sheet.derived, &sheet.base) <= MOST_JUDGEMENTS {
+        let sheet = draw(rng, size, apart);
+        let fits = size.fits(&sheet.derived) && size.fits(&sheet.base);
+        if fits && cost::is_small(&sheet.derived, &sheet.base) {
             return sheet;
         }
     }
 }
 
-fn draw(rng: &mut Rng, size: Size) -> Sheet {
+/// One of the given size, or a little smaller; the derived tree may have
+/// nothing to do with the base.
+fn draw(rng: &mut Rng, size: Size, apart: bool) -> Sheet {
     let count = match rng.below(20) {
         0 => 1,
         1..15 => rng.within(2, 7),
@@ -40,7 +52,7 @@ fn draw(rng: &mut Rng, size: Size) -> Sheet {
     let paper = leaves::paper(rng, count);
     let mut base = tree(rng, &paper.leaves, size);
     let mut derived =
-        if rng.one_in(8) { tree(rng, &paper.leaves, size) } else { narrowed(rng, &paper, &base) };
+        if apart { tree(rng, &paper.leaves, size) } else { narrowed(rng, &paper, &base) };
     for tree in [&mut derived, &mut base] {
         for _ in 0..rng.pick(&[0, 0, 0, 1, 2]) {
             change::one(rng, tree, &paper.leaves, &disguise::CHANGES);
@@ -58,7 +70,7 @@ fn draw(rng: &mut Rng, size: Size) -> Sheet {
 pub fn with_base(rng: &mut Rng, leaves: Vec<Leaf>, base: Tree) -> Sheet {
     let paper = leaves::over(rng, leaves);
     let mut derived = narrowed(rng, &paper, &base);
-    if cost::judgements(&derived, &base) > MOST_JUDGEMENTS {
+    if !cost::is_small(&derived, &base) {
         derived = Tree::leaf(paper.leaves[0].kind, 0, (1, Some(1)));
     }
     let Paper { leaves, first, second } = paper;
@@ -78,13 +90,14 @@ fn narrowed(rng: &mut Rng, paper: &Paper, base: &Tree) -> Tree {
 }
 
 fn tree(rng: &mut Rng, leaves: &[Leaf], size: Size) -> Tree {
-    let records = match rng.below(12) {
-        0..6 => rng.within(1, 9),
-        _ if size == Size::Small => rng.within(1, 9),
-        6..9 => rng.within(10, 30),
-        9..11 => rng.within(31, 100),
-        _ if rng.one_in(2) => rng.within(101, MOST_RECORDS),
-        _ => rng.pick(&[MOST_RECORDS - 1, MOST_RECORDS]),
+    let records = match (size, rng.below(48)) {
+        (Size::Between(least, most), _) => rng.within(least, most),
+        (Size::Small, _) | (_, 0..24) => rng.within(1, 9),
+        (_, 24..36) => rng.within(10, 30),
+        (_, 36..44) => rng.within(31, 100),
+        (_, 44..46) => rng.within(101, 255),
+        (_, 46) => rng.within(256, MOST_RECORDS),
+        _ => rng.pick(&[254, 255, 256, 257, MOST_RECORDS - 1, MOST_RECORDS]),
     };
     let mut tree = if rng.one_in(10) {
         trees::tree_of(rng, records)

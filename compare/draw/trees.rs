@@ -1,4 +1,4 @@
-//! Random accepted trees: 1 to 255 records, depth up to 12, all five kinds,
+//! Random accepted trees: 1 to 1000 records, depth up to 12, all five kinds,
 //! pairs around the numbers at which totals turn.
 
 use common::random::Rng;
@@ -45,16 +45,17 @@ enum Zeros {
 }
 
 pub fn tree(rng: &mut Rng) -> Tree {
-    let records = match rng.below(8) {
-        0..4 => rng.within(1, 12),
-        4..6 => rng.within(13, 64),
-        6 => rng.within(65, MOST_RECORDS),
-        _ => rng.pick(&[1, 2, 3, 4, 5, 6, MOST_RECORDS - 1, MOST_RECORDS]),
+    let records = match rng.below(64) {
+        0..38 => rng.within(1, 12),
+        38..54 => rng.within(13, 64),
+        54..62 => rng.within(65, 255),
+        62 => rng.within(256, MOST_RECORDS),
+        _ => rng.pick(&[254, 255, 256, 257, MOST_RECORDS - 1, MOST_RECORDS]),
     };
     tree_of(rng, records)
 }
 
-/// A tree of exactly so many records: up to 256, one more than is accepted.
+/// A tree of exactly so many records, also of more than are accepted.
 pub fn tree_of(rng: &mut Rng, records: usize) -> Tree {
     use Pairs::*;
     use Shape::*;

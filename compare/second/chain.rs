@@ -2,8 +2,8 @@
 //! and the bytes of the joined tree. The buffer is not asked here: 2 comes
 //! after all of these.
 
-use common::chain::{COUNT_BYTES, COUNTS, LEVELS, MOST_LEVELS};
-use common::tree::{COUNT, KIND, Kind, MAX, MIN, RECORD};
+use common::chain::{self, MOST_LEVELS, count_place};
+use common::tree::{Kind, RECORD, record};
 
 use crate::tree;
 
@@ -20,7 +20,7 @@ pub fn joined(bytes: &[u8]) -> Result<Vec<u8>, Refusal> {
     let Some(counts) = counts(bytes) else {
         return refuse(15, "the levels or the length".into());
     };
-    let mut at = COUNTS + COUNT_BYTES * counts.len();
+    let mut at = count_place(counts.len());
     let mut present: Vec<&[u8]> = Vec::new();
     for (level, count) in (1..).zip(&counts) {
         let own = &bytes[at..at + RECORD * count];
@@ -48,25 +48,16 @@ pub fn joined(bytes: &[u8]) -> Result<Vec<u8>, Refusal> {
 
 /// The record count of each level, unless this is refusal 15.
 fn counts(bytes: &[u8]) -> Option<Vec<usize>> {
-    let levels = usize::from(*bytes.get(LEVELS)?);
-    if !(1..=MOST_LEVELS).contains(&levels) {
-        return None;
-    }
-    let counts = bytes.get(COUNTS..COUNTS + COUNT_BYTES * levels)?.chunks_exact(COUNT_BYTES);
-    let counts = counts.map(|count| usize::from(count[0]) + 256 * usize::from(count[1]));
-    let counts: Vec<usize> = counts.collect();
-    let total = 1 + 2 * levels + 12 * counts.iter().sum::<usize>();
-    (bytes.len() == total).then_some(counts)
+    let counts = chain::counts(bytes)?;
+    let total = count_place(counts.len()) + RECORD * counts.iter().sum::<usize>();
+    let good = (1..=MOST_LEVELS).contains(&counts.len()) && bytes.len() == total;
+    good.then_some(counts)
 }
 
 /// Each further tree is the second item of a (1,1) sequence around all before
 /// it, so these sequences stand in front of the trees, the last one's first.
 fn join(present: &[&[u8]]) -> Vec<u8> {
-    let mut around = [0; RECORD];
-    around[KIND] = Kind::Sequence as u8;
-    around[COUNT] = 2;
-    around[MIN] = 1;
-    around[MAX] = 1;
+    let around = record(Kind::Sequence, 2, (1, Some(1)));
     let mut out = around.repeat(present.len().saturating_sub(1));
     present.iter().for_each(|own| out.extend_from_slice(own));
     out

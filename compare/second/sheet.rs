@@ -2,11 +2,11 @@
 //! length and contents, 3 leaves, 4 verdicts, 5 to 9 the base tree, 10 to 14
 //! the derived tree (tree.rs).
 
+use common::bytes::short;
 use common::sheet::{
-    BASE, CONTENTS, DERIVED, LEAF_BYTES, LEAF_KIND, LEAVES, MOST_LEAVES, NAME, PROCESSING, Places,
-    TOTAL, ZERO, places,
+    CONTENTS, Counts, LEAF_BYTES, LEAF_KIND, MOST_LEAVES, NAME, PROCESSING, Places, TOTAL, ZERO,
 };
-use common::tree::number;
+use common::tree::{MOST_RECORDS, RECORD};
 
 use crate::tree::{self, OF_BASE, OF_DERIVED};
 
@@ -48,22 +48,21 @@ fn contents(bytes: &[u8]) -> Option<Places> {
     if bytes.len() < CONTENTS {
         return None;
     }
-    let (leaves, derived, base) = (bytes[LEAVES], bytes[DERIVED], bytes[BASE]);
-    let [n, d, b] = [leaves, derived, base].map(usize::from);
-    let total = 8 + 4 * n + 2 * n * n + 12 * d + 12 * b;
+    let counts = Counts::read(bytes);
+    let Counts { leaves: n, derived: d, base: b } = counts;
+    let total = CONTENTS + LEAF_BYTES * n + 2 * n * n + RECORD * d + RECORD * b;
     let good = (1..=MOST_LEAVES).contains(&n)
-        && d > 0
-        && b > 0
+        && [d, b].iter().all(|records| (1..=MOST_RECORDS).contains(records))
         && bytes[ZERO] == 0
-        && number(bytes, TOTAL) as usize == total
+        && usize::from(short(bytes, TOTAL)) == total
         && bytes.len() == total;
-    good.then(|| places(leaves, derived, base))
+    good.then(|| counts.places())
 }
 
 fn leaf_good(leaf: &[u8]) -> bool {
     match leaf[LEAF_KIND] {
         0 => leaf[PROCESSING] == 0,
-        1 => leaf[PROCESSING] <= 2 && leaf[NAME] == 0 && leaf[NAME + 1] == 0,
+        1 => leaf[PROCESSING] <= 2 && short(leaf, NAME) == 0,
         _ => false,
     }
 }

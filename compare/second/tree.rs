@@ -2,8 +2,10 @@
 //! records with a stack of the groups that are open. A tree alone and a derived
 //! tree are refused with 10 to 14, a base tree with 5 to 9.
 
+use common::bytes::number;
+use common::sheet::MOST_LEAVES;
 use common::tree::{
-    COUNT, KIND, Kind, LEAF, MARK, MAX, MIN, MOST_DEPTH, MOST_RECORDS, RECORD, number,
+    KIND, Kind, LEAF, MARK, MAX, MIN, MOST_DEPTH, MOST_RECORDS, RECORD, ZEROS, count,
 };
 
 /// The number of the first refusal, and the record (from 0) that shows it.
@@ -20,7 +22,7 @@ pub const OF_DERIVED: u32 = 10;
 
 /// A group whose items are being read.
 struct Open {
-    awaited: u8,
+    awaited: usize,
     is_all: bool,
 }
 
@@ -30,7 +32,7 @@ pub fn first_refusal(bytes: &[u8]) -> Option<Refusal> {
     if bytes.len() % RECORD != 0 || records == 0 || records > MOST_RECORDS {
         return Some(Refusal { number: OF_DERIVED + 4, record: 0 });
     }
-    scan(bytes, OF_DERIVED, |_, leaf| leaf <= 63)
+    scan(bytes, OF_DERIVED, |_, leaf| usize::from(leaf) < MOST_LEAVES)
 }
 
 /// The first refusal of a tree in a sheet, of whole records. `kinds` are those
@@ -67,7 +69,7 @@ fn scan(bytes: &[u8], lowest: u32, fits: impl Fn(u8, u8) -> bool) -> Option<Refu
             group.awaited -= 1;
         }
         // A leaf and an empty group await nothing and are closed below.
-        open.push(Open { awaited: record[COUNT], is_all });
+        open.push(Open { awaited: count(record), is_all });
         while open.last().is_some_and(|group| group.awaited == 0) {
             open.pop();
         }
@@ -79,7 +81,7 @@ fn scan(bytes: &[u8], lowest: u32, fits: impl Fn(u8, u8) -> bool) -> Option<Refu
 /// Each field in its range, whatever the others of the tree are.
 fn fields_good(record: &[u8], fits: &impl Fn(u8, u8) -> bool) -> bool {
     let numbers = match record[KIND] {
-        0 | 1 => fits(record[KIND], record[LEAF]) && record[COUNT] == 0,
+        0 | 1 => fits(record[KIND], record[LEAF]) && count(record) == 0,
         2..=4 => record[LEAF] == 0,
         _ => false,
     };
@@ -88,5 +90,6 @@ fn fields_good(record: &[u8], fits: &impl Fn(u8, u8) -> bool) -> bool {
         1 => number(record, MAX) == 0,
         _ => false,
     };
-    numbers && maximum
+    let zeros = record[ZEROS].iter().all(|byte| *byte == 0);
+    numbers && maximum && zeros
 }

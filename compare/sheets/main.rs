@@ -23,8 +23,8 @@ use tally::Tally;
 const RANDOM: u64 = 500_000;
 const DAMAGED: u64 = 300_000;
 /// So many random sheets are small, so that a difference shows on a small one
-/// if it can.
-const SMALL: u64 = 250_000;
+/// if it can; after these, every second one.
+const SMALL: u64 = 25_000;
 /// Below so many records, all are small: others would be drawn in vain.
 const FEW: u64 = 24;
 
@@ -54,6 +54,7 @@ fn complete(options: &Options, tally: &Tally) {
     let marks = tally.random_answers.missing_marks();
     let few = options.count < RANDOM || options.records < MOST_RECORDS as u64;
     assert!(few || marks.is_empty(), "marks that never came up: {marks:?}");
+    assert!(few || !tally.wide.contains(&0), "a wide group never came up: {:?}", tally.wide);
     let refusals = tally.damaged_answers.missing_refusals();
     let few = options.damaged < DAMAGED;
     assert!(few || refusals.is_empty(), "refusals that never came up: {refusals:?}");
@@ -111,7 +112,8 @@ fn accepted(bytes: &[u8]) -> u32 {
 
 /// A sheet whose trees have no more records than asked for.
 fn random_sheet(options: &Options, rng: &mut Rng, case: u64) -> Sheet {
-    let size = if case < SMALL || options.records < FEW { Size::Small } else { Size::Any };
+    let small = case < SMALL || case % 2 == 0 || options.records < FEW;
+    let size = if small { Size::Small } else { Size::Any };
     loop {
         let sheet = sheets::sheet(rng, size);
         let records = sheet.derived.records().max(sheet.base.records());
@@ -124,9 +126,13 @@ fn random_sheet(options: &Options, rng: &mut Rng, case: u64) -> Sheet {
 fn random(options: &Options, tally: &mut Tally) -> Result<(), Found> {
     for case in 0..options.count {
         let mut rng = Rng::new(options.seed, case);
-        let bytes = random_sheet(options, &mut rng, case).encode();
+        let sheet = random_sheet(options, &mut rng, case);
+        let bytes = sheet.encode();
         let expected = accepted(&bytes);
         tally.random += 1;
+        for (count, tree) in tally.wide.iter_mut().zip([&sheet.derived, &sheet.base]) {
+            *count += u64::from(tree.is_wide());
+        }
         tally.random_answers.count(expected);
         let case = format!("random sheet {case} of seed {}", options.seed);
         check::compare(&bytes, expected).map_err(found(case, bytes))?;

@@ -57,6 +57,9 @@ pub struct Tally {
     pub limits: u64,
     pub tiny: u64,
     pub random: u64,
+    /// Derived and base trees of random sheets with a group of more items than
+    /// a byte can count.
+    pub wide: [u64; 2],
     pub damaged: u64,
     /// Of the random sheets.
     pub random_answers: Answers,
@@ -66,10 +69,12 @@ pub struct Tally {
 
 impl fmt::Display for Tally {
     fn fmt(&self, f: &mut fmt::Formatter<'_>) -> fmt::Result {
+        let [derived, base] = self.wide;
         write!(
             f,
             "all equal: {} known sheets, {} sheets at the limits, {} tiny sheets, \
-             {} random sheets ({}), {} damaged sheets ({} accepted; {})",
+             {} random sheets ({}; wide derived trees {derived}, base trees {base}), \
+             {} damaged sheets ({} accepted; {})",
             self.known,
             self.limits,
             self.tiny,

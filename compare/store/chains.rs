@@ -11,11 +11,16 @@ use crate::case::{Case, Operation};
 use crate::shares::{Round, Shares, Stored};
 use crate::trees::{lent, room};
 
-/// The most bytes of a stored chain: one that is too deep when joined has some
-/// 160 at least.
-const SHORT: usize = 240;
+/// The most bytes of a stored chain: one that is too deep when joined has 13
+/// records at least.
+const SHORT: usize = 20 * RECORD;
 /// Of the known ones these are longer: too many records take as many.
-const LARGE: [&str; 2] = ["the most records joined", "one over joined"];
+const LARGE: [&str; 4] = [
+    "the most records joined",
+    "one over joined",
+    "256 records",
+    "256 records, its bytes exchanged",
+];
 
 /// How many of each kind of joined tree, and of each refusal; 'no content' has
 /// few chains.

@@ -7,25 +7,39 @@ use cases::{known_sheets, limits};
 use common::answers::{self, REFUSALS, REFUSED};
 use common::random::Rng;
 use common::sheet::Sheet;
-use common::tree::{Kind, Tree};
+use common::tree::{Kind, RECORD, Tree};
 use draw::damaged_sheets;
 use draw::sheets::{self, Size};
 
 use crate::case::{Case, Operation};
 use crate::shares::{Round, Shares, Stored};
 
+/// The bytes of a sheet without its records, of two leaves.
+const TWO_LEAVES: usize = 24;
 /// Most stored sheets are not longer than this, so that there can be many.
-const SHORT: usize = 132;
-/// Those that are refused for their depth, 13, are longer: a tree of so many
-/// records has 156 bytes.
-const DEEP: usize = 230;
+const SHORT: usize = TWO_LEAVES + 9 * RECORD;
+/// Those that are refused for their depth are longer.
+const DEEP: usize = TWO_LEAVES + 17 * RECORD;
 const DEPTH: [u32; 2] = [8, 13];
 /// A few are of any size up to this.
-const LONG: usize = 900;
-/// Of the sheets at the limits, those that are longer than this are left out
-/// unless `LARGE` names them.
-const WIDE: usize = 3600;
-const LARGE: [&str; 2] = ["254 elements in the other order", "the largest sheet, the last verdict"];
+const LONG: usize = 75 * RECORD;
+/// Of the known sheets and of those at the limits, those that are longer than
+/// this are left out unless `LARGE` names them.
+const WIDE: usize = 240 * RECORD;
+const LARGE: [&str; 12] = [
+    "256 derived records",
+    "256 base records",
+    "256 derived records, exchanged to 1",
+    "700 derived records",
+    "256 items twice",
+    "256 items against 257",
+    "256 members, none asked",
+    "a member of 256 alternatives",
+    "256 times 16777216, bounded",
+    "999 elements in the other order",
+    "the largest sheet, the last verdict",
+    "the longest sheet and a byte",
+];
 
 /// How many draws are spread over the fine kinds, and how many of each these
 /// give at most.
@@ -90,14 +104,12 @@ fn open(rng: &mut Rng) -> Sheet {
 
 /// The known sheets, document 01's examples, and some at the limits.
 fn fixed(stored: &mut Stored) {
-    for (_, bytes, _) in known_sheets::known() {
-        stored.add(marked(&bytes));
-    }
     for (derived, base, also, _) in EXAMPLES.iter().chain(&SETTLED) {
         stored.add(marked(&stated::sheet(derived, base, also).encode()));
     }
-    for (what, sheet, _) in limits::stated() {
-        let bytes = sheet.encode();
+    let known = known_sheets::known().into_iter().map(|(what, bytes, _)| (what, bytes));
+    let at_limits = limits::stated().into_iter().map(|(what, sheet, _)| (what, sheet.encode()));
+    for (what, bytes) in known.chain(at_limits) {
         if bytes.len() <= WIDE || LARGE.contains(&what) {
             stored.add(marked(&bytes));
         }

@@ -1,5 +1,5 @@
 //! The trees alone among the stored answers: known byte strings, trees about the
-//! cut of totals, a tree of 255 records, random and damaged ones, with what the
+//! cut of totals, a tree of 1000 records, random and damaged ones, with what the
 //! entries must answer on them (expected/tree.rs).
 
 use cases::{known_totals, known_trees};
@@ -7,7 +7,7 @@ use common::answers::with_caps;
 use common::notation::parse;
 use common::random::Rng;
 use common::sheet::Leaf;
-use common::tree::{MOST_RECORDS, Tree};
+use common::tree::{MOST_RECORDS, RECORD, Tree};
 use draw::{change, damaged_trees, disguise, trees};
 use expected::tree::Answers;
 
@@ -15,9 +15,11 @@ use crate::case::{Case, Operation};
 use crate::shares::{Round, Shares, Stored};
 
 /// The most bytes of a known string that goes through every operation.
-const SHORT: usize = 200;
-/// The most bytes of a damaged string: one of depth 13 has 156.
-const SHORT_DAMAGED: usize = 168;
+const SHORT: usize = 17 * RECORD;
+/// These are longer: counts of more than a byte.
+const LARGE: [&str; 2] = ["a sequence of 256", "256 with its bytes exchanged"];
+/// The most bytes of a damaged string: one that is too deep has a record less.
+const SHORT_DAMAGED: usize = 14 * RECORD;
 /// The most records of a random tree, before groups are added to it.
 const FEW: usize = 6;
 
@@ -27,15 +29,14 @@ const REFUSED_SHARE: usize = 15;
 
 pub fn store(stored: &mut Stored, seed: u64) {
     let mut rng = Rng::new(seed, u64::MAX);
-    let most = trees::usual_tree_of(&mut rng, MOST_RECORDS).encode();
-    let known = known_trees::known().into_iter().map(|(_, bytes, _)| bytes);
-    let totals = known_totals::known().into_iter().map(|(text, _)| parse(&text).encode());
-    let known: Vec<Vec<u8>> = known.chain(totals).collect();
-    for bytes in known.iter().filter(|bytes| bytes.len() <= SHORT).chain([&most]) {
-        for case in answers(&mut rng, bytes) {
-            stored.add(case);
+    let known = known_trees::known().into_iter().map(|(what, bytes, _)| (what, bytes));
+    let totals = known_totals::known().into_iter().map(|(text, _)| ("", parse(&text).encode()));
+    for (what, bytes) in known.chain(totals) {
+        if bytes.len() <= SHORT || LARGE.contains(&what) {
+            answers(&mut rng, &bytes).into_iter().for_each(|case| _ = stored.add(case));
         }
     }
+    of_most_records(&mut rng).into_iter().for_each(|case| _ = stored.add(case));
     accepted().fill(stored, seed, Round::Trees, |rng| {
         let tree = random_tree(rng);
         answers(rng, &tree.encode())
@@ -93,25 +94,45 @@ fn answers(rng: &mut Rng, bytes: &[u8]) -> Vec<Case> {
     if let Some(rust) = answers.rust_total {
         assert!(with_caps(answers.total) == rust, "another total than the Rust's");
     }
+    let of_tidied = room(rng, bytes.len());
+    let items = &answers.items;
+    let k = if rng.one_in(8) { u16::MAX } else { rng.below(items.len() + 2) as u16 };
+    let of_item = room(rng, items.get(usize::from(k)).map_or(0, Vec::len));
     vec![
         Case::number(Operation::TotalMin, bytes, answers.total.0),
         Case::number(Operation::TotalMax, bytes, answers.total.1),
         Case::number(Operation::Emptiable, bytes, answers.emptiable.into()),
-        tidied(rng, bytes, &answers),
-        item(rng, bytes, &answers),
+        tidied(rng, bytes, &answers, of_tidied),
+        item(rng, bytes, &answers, k, of_item),
     ]
 }
 
-fn tidied(rng: &mut Rng, bytes: &[u8], answers: &Answers) -> Case {
-    let room = room(rng, bytes.len());
+/// The longest tree: its total, all of it tidied, and an item whose number needs
+/// more than a byte.
+fn of_most_records(rng: &mut Rng) -> [Case; 3] {
+    let tree = loop {
+        let tree = trees::usual_tree_of(rng, MOST_RECORDS);
+        if tree.items.len() > 256 {
+            break tree;
+        }
+    };
+    let bytes = tree.encode();
+    let answers = expected::tree::answers(&bytes);
+    let k = rng.within(256, tree.items.len() - 1);
+    let length = answers.items[k].len();
+    [
+        Case::number(Operation::TotalMin, &bytes, answers.total.0),
+        tidied(rng, &bytes, &answers, bytes.len()),
+        item(rng, &bytes, &answers, k as u16, length),
+    ]
+}
+
+fn tidied(rng: &mut Rng, bytes: &[u8], answers: &Answers, room: usize) -> Case {
     let (answer, written) = answers.tidied_into(bytes.len(), room);
     lent(rng, Operation::Tidy, 0, bytes, answer, room, written)
 }
 
-fn item(rng: &mut Rng, bytes: &[u8], answers: &Answers) -> Case {
-    let items = &answers.items;
-    let k = if rng.one_in(8) { u16::MAX } else { rng.below(items.len() + 2) as u16 };
-    let room = room(rng, items.get(usize::from(k)).map_or(0, Vec::len));
+fn item(rng: &mut Rng, bytes: &[u8], answers: &Answers, k: u16, room: usize) -> Case {
     let (length, written) = answers.item_into(k.into(), room);
     lent(rng, Operation::Item, k, bytes, length as u64, room, written)
 }

@@ -11,12 +11,15 @@ use common::answers;
 use common::notation::parse;
 use common::options::{self, Options};
 use common::random::Rng;
-use common::tree::{RECORD, Tree};
+use common::tree::{MOST_RECORDS, RECORD, Tree};
 use draw::{damaged_trees, trees};
 use second::tree::first_refusal;
 
 use check::Difference;
 use tally::Tally;
+
+const RANDOM: u64 = 200_000;
+const DAMAGED: u64 = 150_000;
 
 /// Where a difference turned up: the run and its case, and the byte string.
 struct Found {
@@ -26,7 +29,7 @@ struct Found {
 }
 
 fn main() {
-    let options = options::read("trees", 200_000, 150_000);
+    let options = options::read("trees", RANDOM, DAMAGED);
     let mut tally = Tally::default();
     // Short runs first, so that a difference shows on a small case if it can.
     for run in [known, totals, small, random, damaged] {
@@ -36,6 +39,8 @@ fn main() {
         }
     }
     assert!(tally.covers_totals(), "an edge of the total range never came up: {tally}");
+    let few = options.count < RANDOM || options.records < MOST_RECORDS as u64;
+    assert!(few || tally.wide > 0, "a wide group never came up: {tally}");
     println!("{tally}");
 }
 
@@ -109,6 +114,7 @@ fn random(options: &Options, tally: &mut Tally) -> Result<(), Found> {
         let tree = random_tree(options, &mut rng);
         let bytes = tree.encode();
         tally.random += 1;
+        tally.wide += u64::from(tree.is_wide());
         accepted(&bytes);
         assert!(Tree::decode(&bytes) == tree, "read as another tree: {tree}");
         check::answers(&bytes, &mut rng, tally)

@@ -3,13 +3,15 @@
 use std::fmt;
 
 use common::answers::{BEYOND, TOO_LARGE};
-use common::tree::{COUNT, KIND, RECORD};
+use common::tree::{KIND, RECORD, count};
 use expected::tree::Answers;
 
 #[derive(Default)]
 pub struct Tally {
     pub small: u64,
     pub random: u64,
+    /// Random trees with a group of more items than a byte can count.
+    pub wide: u64,
     pub known: u64,
     pub damaged: u64,
     /// Strings refused with 10, 11, 12, 13, 14.
@@ -45,7 +47,7 @@ impl Tally {
         for record in bytes.chunks_exact(RECORD) {
             let kind = usize::from(record[KIND]);
             self.records[kind] += 1;
-            self.empty_groups += u64::from(kind > 1 && record[COUNT] == 0);
+            self.empty_groups += u64::from(kind > 1 && count(record) == 0);
         }
         const MOST: u64 = BEYOND - 1;
         let minima = [0, MOST, TOO_LARGE].map(|edge| min == edge);
@@ -68,7 +70,8 @@ impl fmt::Display for Tally {
         let [min0, min_top, min_over, max0, max_top, max_over, unbounded] = self.edges;
         write!(
             f,
-            "all equal: {} small trees, {} random trees, {} known strings, {} damaged strings; \
+            "all equal: {} small trees, {} random trees ({} of them wide), {} known strings, \
+             {} damaged strings; \
              {} accepted (records: {e} elements, {w} wildcards, {s} sequences, {c} choices, \
              {a} all-groups, {} of these groups empty), \
              refused 10: {r10}, 11: {r11}, 12: {r12}, 13: {r13}, 14: {r14}; \
@@ -79,6 +82,7 @@ impl fmt::Display for Tally {
              tidied into {} buffers",
             self.small,
             self.random,
+            self.wide,
             self.known,
             self.damaged,
             self.accepted,

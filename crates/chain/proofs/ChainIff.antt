@@ -10,7 +10,7 @@ use lib.ListN.{length, take, drop, length-append, length-take, length-drop, leng
 use lib.Seq.{take-at, drop-at}
 use Rattle.particle.specs.Record.{recordSize}
 use Rattle.particle.specs.Encode.{Bytes}
-use Rattle.particle.proofs.RoundTrip.{byte-at, bytes-drop}
+use Rattle.particle.proofs.RoundTrip.{halves, half-bytes, byte-at, bytes-drop}
 use Rattle.particle.proofs.Widths.{bytes-append}
 use Rattle.sheet.specs.Fits.{Each}
 use Rattle.chain.specs.Layout.{levelCount, countSize, countsIn, countsBytes, countAt, counts, sum, treesPart, levelIn, levelsIn, levels}
@@ -29,9 +29,7 @@ length-counts (n ∷ ns) = omega (arith, length-counts ns)
 counts-back : (ns rest : List ℕ) → countsIn (length ns) (countsBytes ns ++ rest) ≡ ns
 unfolding countsBytes countsIn
 counts-back [] rest = refl
-counts-back (n ∷ ns) rest =
-    let e : n % 256 + n / 256 * 256 ≡ n = omega arith in
-    rw (e, counts-back ns rest)
+counts-back (n ∷ ns) rest = rw (halves n, counts-back ns rest)
 
 length-present : (ls : List (Option (List ℕ))) → Each LevelFits ls → length (flatten (present ls)) ≡ recordSize * sum (map recordsOf ls)
 unfolding Each present flatten sum
@@ -111,10 +109,8 @@ counts-read zero s b l = refl
 counts-read (suc n) [] b l = absurd (omega arith)
 counts-read (suc n) (x ∷ []) b l = absurd (omega arith)
 counts-read (suc n) (x ∷ y ∷ s) b l =
-    let p : (x + y * 256) % 256 ≡ x = omega (arith, b .0) in
-    let q : (x + y * 256) / 256 ≡ y = omega (arith, b .0) in
     let e : countSize * suc n ≡ suc (suc (countSize * n)) = omega arith in
-    rw (p, q, e, counts-read n s (b .1 .1) (omega arith))
+    ap (λ (u : List ℕ). u ++ countsBytes (countsIn n s)) (half-bytes x y (b .0)) ∙ rw e (ap (λ (u : List ℕ). x ∷ y ∷ u) (counts-read n s (b .1 .1) (omega arith)))
 
 counts-low : (n : ℕ) (s : List ℕ) → Bytes s → Each (λ k. k < 2 ^ 16) (countsIn n s)
 unfolding countsIn Each

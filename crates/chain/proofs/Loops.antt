@@ -8,7 +8,8 @@ use lib.Dec.{eqb}
 use lib.ListN.{length, take, drop, getD, length-drop}
 use lib.Seq.{drop-drop, getD-drop, length-take-le}
 use borrow.Author.Tests.{eq-eqb, ne-eqb}
-use Rattle.particle.specs.Record.{recordSize}
+use Rattle.particle.specs.Record.{recordSize, half}
+use Rattle.particle.proofs.Records.{half-drop}
 use Rattle.particle.proofs.Laws.{part-is}
 use Rattle.intake.specs.declared.Fault.{Fault}
 use Rattle.intake.specs.declared.Checked.{Checked}
@@ -43,10 +44,10 @@ module _ (c : List ℕ) (n i : ℕ) where
   count-there e l h = omega arith
 
 -- the count whose two bytes start at `at`
-pub count-read : (c : List ℕ) {at a b : ℕ} → a ≡ getD c at 0 → b ≡ getD c (at + 1) 0 → {place : ℕ} → at ≡ place → a + b * 256 ≡ countIn (drop place c)
-count-read c f g {place} e =
-    let z : place + 0 ≡ place = omega arith in
-    rw (f, g, e, getD-drop place c 0 0, getD-drop place c 1 0, z)
+pub count-read : (c : List ℕ) {at n : ℕ} → n ≡ half c at → {place : ℕ} → at ≡ place → n ≡ countIn (drop place c)
+count-read c f {place} e =
+    let z : place ≡ place + 0 = omega arith in
+    f ∙ (ap (half c) (e ∙ z) ∙ sym (half-drop place c 0))
 
 all-counts : (c : List ℕ) {n : ℕ} → n ≡ levelCount c → countsFrom c n 0 ≡ counts c
 all-counts c {n} e =

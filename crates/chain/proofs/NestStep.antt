@@ -6,6 +6,7 @@ use native.Mathlib.Omega.{arith}
 use borrow.Rule.Slice.PartMut.{midOf, putMid}
 use lib.ListN.{length, take, drop, length-append, length-take, length-drop}
 use lib.Seq.{length-take-le, take-at}
+use Rattle.particle.specs.declared.Record.{Record}
 use Rattle.particle.specs.Record.{recordSize, recordBytes}
 use Rattle.particle.specs.Write.{overwrite}
 use Rattle.particle.proofs.Copied.{part-length, copied}
@@ -38,10 +39,10 @@ module _ {n size : ℕ} {out : List ℕ} {at i : ℕ} (v : Nesting n size out at
     pub record-room : at + recordSize ≤ length out
     record-room = omega (arith, v .place, v .same-size)
 
-    pub nest-next : {after : List ℕ} → after ≡ overwrite at (recordBytes bothRecord) out → Nesting n size after (at + recordSize) (i + 1)
+    pub nest-next : {r : Record} → r ≡ bothRecord → {after : List ℕ} → after ≡ overwrite at (recordBytes r) out → Nesting n size after (at + recordSize) (i + 1)
     unfolding overwrite nested
-    nest-next {after} e =
-        let p : after ≡ (take at out ++ recordBytes bothRecord) ++ drop (at + recordSize) out = e ∙ sym (append-assoc (take at out) (recordBytes bothRecord) (drop (at + recordSize) out)) in
+    nest-next {r} is {after} e =
+        let p : after ≡ (take at out ++ recordBytes bothRecord) ++ drop (at + recordSize) out = e ∙ (ap (λ (q : Record). overwrite at (recordBytes q) out) is ∙ sym (append-assoc (take at out) (recordBytes bothRecord) (drop (at + recordSize) out))) in
         let first : length (take at out) ≡ at = length-take-le at out (omega (arith, record-room)) in
         let s : length (take at out ++ recordBytes bothRecord) ≡ at + recordSize = omega (arith, length-append (take at out) (recordBytes bothRecord), first) in
         let next : i + 1 ≡ suc i = omega arith in

@@ -1,9 +1,9 @@
 -- A chain as bytes (document 02 §1): one byte of levels, a record count for each, then the records of the trees that are present, root type first. Nothing else says this layout; a record's stands in particle, Record. Assumes nothing: these are definitions.
 use mathlib.Core.List.{List, [], _∷_, _++_}
 use mathlib.Core.Option.{Option, none, some}
-use Prim.Native.Nat.{ℕ, zero, suc, _+_, _*_, _/_, _%_}
+use Prim.Native.Nat.{ℕ, zero, suc, _+_, _*_}
 use lib.ListN.{getD, take, drop}
-use Rattle.particle.specs.Record.{recordSize}
+use Rattle.particle.specs.Record.{recordSize, half, halfBytes}
 
 -- a chain has at most so many levels
 abbrev pub maxLevels : ℕ
@@ -19,9 +19,9 @@ countSize = 2
 abbrev pub levelCount : List ℕ → ℕ
 levelCount c = getD c 0 0
 
--- the 16-bit number that s starts with, little-endian
+-- the record count that s starts with, 16 bits
 abbrev pub countIn : List ℕ → ℕ
-countIn s = getD s 0 0 + getD s 1 0 * 256
+countIn s = half s 0
 
 -- the first n record counts of s
 unfoldable pub countsIn : ℕ → List ℕ → List ℕ
@@ -30,7 +30,7 @@ countsIn (suc n) s = countIn s ∷ countsIn n (drop countSize s)
 
 -- the two bytes of a record count, and those of counts one after another
 abbrev pub countBytes : ℕ → List ℕ
-countBytes n = n % 256 ∷ n / 256 ∷ []
+countBytes n = halfBytes n
 
 unfoldable pub countsBytes : List ℕ → List ℕ
 countsBytes [] = []

@@ -51,8 +51,7 @@ pub fn count(c: &[u8], i: usize) -> usize
     requires { ⌜ countAt i + countSize ≤ length (now c) ⌝ }
     ensures { λ r. ⌜ (r ≡ countIn (drop (countAt i) (now (c .entry)))) × (r < 65536) ⌝ }
 {
-    let at = count_at(i);
-    wide(c[at]) + wide(c[at + 1]) * 256
+    particle::read_u16(c, count_at(i)) as usize
 }
 
 // How many trees a level of n records has.

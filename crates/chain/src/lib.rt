@@ -18,7 +18,6 @@ use intake::Checked;
 use intake::Refusal;
 use particle::MAX_RECORDS;
 use particle::RECORD_SIZE;
-use particle::Record;
 
 // The length of the longest tree in bytes.
 const CAPACITY: usize = RECORD_SIZE * MAX_RECORDS;
@@ -65,14 +64,7 @@ fn nest(t: &[u8], n: usize, out: &mut [u8]) -> usize
     requires { ⌜ recordSize * n + length (now t) ≤ length (now out) ⌝ }
     ensures { λ r. ⌜ Nests n (now (t .entry)) (now (out .exit)) r ⌝ }
 {
-    let both = Record {
-        kind: particle::SEQUENCE,
-        leaf: 0,
-        count: 2,
-        unbounded: 0,
-        min: 1,
-        max: 1,
-    };
+    let both = particle::sequence_of(2);
     let mut at: usize = 0;
     let mut i: usize = 0;
     while i < n {

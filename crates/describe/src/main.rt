@@ -73,7 +73,7 @@ fn describe(t: &[u8]) {
 
 // Input past the longest tree fills the buffer beyond that limit, and is refused.
 fn main() {
-    let mut buf = io::buffer();
+    let mut buf = io::large_buffer();
     let n = io::read_full(0, &mut buf);
     describe(&buf[..n]);
 }

@@ -43,7 +43,7 @@ module _ (known : Known) (low : (kind leaf : ℕ) → known kind leaf ≡ true �
   widths-flat none d a s f = tt
   widths-flat (item h k r) d a s f =
       let m = max-widths (pairOf h .min) (pairOf h .max) (f .0 .pair) in (
-        record { kind = kind-width h; leaf = leaf-width h k (f .0 .leaf); count = omega (arith, countI-le k); unbounded = m .0; min = m .1; max = m .2 },
+        record { kind = kind-width h; leaf = leaf-width h k (f .0 .leaf); count = omega (arith, countI-le k); unbounded = m .0; zero = omega arith; size = omega arith; min = m .1; max = m .2 },
         widths-append (flat k) (flat r) (widths-flat k (suc d) (isAll h) (omega arith) (f .1)) (widths-flat r d a (omega arith) (f .2)),
       )
 

@@ -16,7 +16,7 @@ use Rattle.particle.proofs.Heads.{pair-kind, kind-capped}
 use Rattle.particle.proofs.Tests.{and-true, both-true}
 use Rattle.intake.specs.declared.Checked.the-variants.{Accepted}
 use Rattle.intake.specs.Limits.{maxDepth}
-use Rattle.intake.specs.Faults.{Known, leafOk, boundOk, fieldsOk, faultOf}
+use Rattle.intake.specs.Faults.{Known, leafOk, boundOk, zerosOk, fieldsOk, faultOf}
 use Rattle.intake.specs.Accepted.{LeafFits, MaxFits, AllFits, MemberFits, isAll, RecordFits}
 use Rattle.intake.proofs.Steps.{tests, clean, shallow}
 
@@ -75,7 +75,7 @@ fits-clean {known} {h} {k} {d} {a} f =
     (recordOf h (countI k))
     d
     a
-    (both-true (kind-ok h) (both-true (leaf-ok known h k (f .leaf)) (bound-ok (pairOf h .max))))
+    (both-true (kind-ok h) (both-true (leaf-ok known h k (f .leaf)) (both-true (bound-ok (pairOf h .max)) refl)))
     (pair-ok (pairOf h .min) (pairOf h .max) (f .pair))
     (both-true (group-ok h (f .group)) (member-ok a h (f .member)))
     (le-leb d maxDepth (f .shallow)))
@@ -86,12 +86,16 @@ record Fields (known : Known) (r : Record) : Type 0 where
   kind : leb (r .kind) 4 ≡ true
   leaf : leafOk known r ≡ true
   bound : boundOk r ≡ true
+  zero : 0 ≡ r .zero
+  size : 0 ≡ r .size
 
 fields : (known : Known) (r : Record) → fieldsOk known r ≡ true → Fields known r
 fields known r e =
-    let s = and-true (leb (r .kind) 4) (leafOk known r && boundOk r) e in
-    let s′ = and-true (leafOk known r) (boundOk r) (s .1) in
-    record { kind = s .0; leaf = s′ .0; bound = s′ .1 }
+    let kind = and-true (leb (r .kind) 4) (leafOk known r && (boundOk r && zerosOk r)) e in
+    let leaf = and-true (leafOk known r) (boundOk r && zerosOk r) (kind .1) in
+    let bound = and-true (boundOk r) (zerosOk r) (leaf .1) in
+    let zeros = and-true (eqb (r .zero) 0) (eqb (r .size) 0) (bound .1) in
+    record { kind = kind .0; leaf = leaf .0; bound = bound .0; zero = sym (eqb-true (r .zero) 0 (zeros .0)); size = sym (eqb-true (r .size) 0 (zeros .1)) }
 
 kind-back : (k l : ℕ) (p : Occurs) → k ≤ 4 → kindNumber (headFrom k l p) ≡ k
 kind-back k l p h = omega (arith, kind-capped k l p)
@@ -171,7 +175,7 @@ module _ (known : Known) (r : Record) (d : ℕ) (a : Bool) (e : faultOf known r 
       let unbounded = ap (λ (p : Occurs). markNumber (p .max)) pair ∙ mark .0 in
       let min = ap (λ (p : Occurs). p .min) pair in
       let max = ap (λ (p : Occurs). maxNumber (p .max)) pair ∙ mark .1 in
-      λ i. record { kind = kind i; leaf = leaf i; count = r .count; unbounded = unbounded i; min = min i; max = max i }
+      λ i. record { kind = kind i; leaf = leaf i; count = r .count; unbounded = unbounded i; zero = own .zero i; size = own .size i; min = min i; max = max i }
 
   pub clean-fits : (b : Items) → r .min < 2 ^ 32 → r .max < 2 ^ 32 → RecordFits known (headOf r) (takeI (r .count) b) d a
   clean-fits b hn hm =

@@ -20,9 +20,13 @@ leafOk known r = cond (ltb (r .kind) 2) (known (r .kind) (r .leaf) && eqb (r .co
 abbrev pub boundOk : Record → Bool
 boundOk r = eqb (r .unbounded) 0 || (eqb (r .unbounded) 1 && eqb (r .max) 0)
 
+-- the three zero bytes are 0
+abbrev pub zerosOk : Record → Bool
+zerosOk r = eqb (r .zero) 0 && eqb (r .size) 0
+
 -- the fields are in order
 abbrev pub fieldsOk : Known → Record → Bool
-fieldsOk known r = leb (r .kind) 4 && (leafOk known r && boundOk r)
+fieldsOk known r = leb (r .kind) 4 && (leafOk known r && (boundOk r && zerosOk r))
 
 -- the minimum is not above a bounded maximum
 abbrev pub pairOk : Record → Bool

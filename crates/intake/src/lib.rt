@@ -4,7 +4,7 @@ ghost use mathlib.Core.Bool.{false};
 ghost use mathlib.Core.List.{[], _∷_};
 ghost use Prim.Native.Nat.{_<_};
 ghost use Rattle.particle.specs.Tree.{records};
-ghost use Rattle.intake.specs.Faults.{leafOk, boundOk, fieldsOk, pairOk, allOk, faultOf};
+ghost use Rattle.intake.specs.Faults.{leafOk, boundOk, zerosOk, fieldsOk, pairOk, allOk, faultOf};
 ghost use Rattle.intake.specs.Scan.{level, scan, listed, alone, refusalIn};
 ghost use Rattle.intake.specs.Number.{faultPlace, refusalNumber};
 use particle::Record;
@@ -78,12 +78,18 @@ fn bound_ok(r: Record) -> bool
     (r.unbounded == 0) | ((r.unbounded == 1) & (r.max == 0))
 }
 
+fn zeros_ok(r: Record) -> bool
+    ensures { λ b. ⌜ b ≡ zerosOk r ⌝ }
+{
+    (r.zero == 0) & (r.size == 0)
+}
+
 fn fields_ok(r: Record, kinds: &[u8]) -> bool
     ensures { λ b. ⌜ b ≡ fieldsOk (listed (now (kinds .entry))) r ⌝ }
 {
     if r.kind <= particle::ALL {
         if leaf_ok(r, kinds) {
-            return bound_ok(r);
+            return bound_ok(r) & zeros_ok(r);
         }
         return false;
     }
@@ -141,9 +147,9 @@ fn fault_of(r: Record, kinds: &[u8], depth: usize, in_all: bool) -> Checked
 fn scan(t: &[u8], kinds: &[u8]) -> Checked
     ensures { λ r. ⌜ r ≡ scan (listed (now (kinds .entry))) (records (now (t .entry))) (level 1 false ∷ []) ⌝ }
 {
-    let mut left: u8 = 1;
+    let mut left: u16 = 1;
     let mut in_all = false;
-    let mut outer = [0u8; MAX_DEPTH];
+    let mut outer = [0u16; MAX_DEPTH];
     let mut above: usize = 0;
     let mut rest = t;
     while particle::RECORD_SIZE <= rest.len() {

@@ -22,12 +22,11 @@ fn print_refused(r: Refusal) {
     io::write_all(STDERR_FILENO, b"\n");
 }
 
-// The first buffer is longer than any chain that is joined, so that longer input, cut off there, is refused; the second is longer than
-// any tree.
+// Both buffers are longer than any chain that is joined, and than any tree; longer input is cut off there, and refused.
 fn main() {
     let mut buf = io::large_buffer();
     let n = io::read_full(STDIN_FILENO, &mut buf);
-    let mut out = io::buffer();
+    let mut out = io::large_buffer();
     match chain::effective_particle(&buf[..n], &mut out) {
         JoinedAnswer::Records(k) => print_tree(&out, k),
         JoinedAnswer::NoContent => {

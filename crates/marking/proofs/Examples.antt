@@ -18,7 +18,8 @@ use Rattle.sheet.specs.Layout.{leavesIn, leavesBytes}
 use Rattle.sheet.specs.Refused.{every, kindsOf, sheetRefusal}
 use Rattle.sheet.specs.Fits.{encodeSheet}
 use Rattle.marking.specs.Answer.{markOfSheet, markSheet}
-use Rattle.marking.specs.Examples.{printedSheet, AllAnswered}
+use Rattle.sheet.specs.Printed.{printedSheet}
+use Rattle.marking.specs.Examples.{AllAnswered}
 
 pub printed-passes : markSheet printedSheet ≡ gives passes
 unfolding markSheet markOfSheet sheetRefusal every kindsOf leavesIn refusalIn scan waiting tree decode records recordsN build takeI dropI mark markTidied restrict restrictTo rule tidy tidyItems sizeI

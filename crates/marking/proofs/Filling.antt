@@ -15,6 +15,7 @@ use Rattle.sheet.specs.Layout.{contentsSize, leafCount, derivedCount, baseCount
 use Rattle.sheet.specs.Refused.{contentsOk, verdictsOk, sheetRefusal}
 use Rattle.marking.specs.Answer.{sheetLeaves, sheetTables, derivedTree, baseTree, markOfSheet, markSheet}
 use Rattle.marking.specs.Demand.{FilledSheet, FillingKeepsSheetMarks}
+use Rattle.sheet.proofs.ContentsBytes.{SameContents, same-contents}
 use Rattle.marking.proofs.FilledRows.{FilledRow, filled-row, row-ok, row-verdict}
 use Rattle.marking.proofs.Answers.{answer-gives}
 
@@ -25,17 +26,11 @@ module _ {s s′ : List ℕ} (f : FilledSheet s s′) where
   after : (i : ℕ) → derivedAt (leafCount s) ≤ i → getD s′ i 0 ≡ getD s i 0
   after i l = f .others i (λ v. omega (arith, v .1))
 
-  same-leaf-count : leafCount s′ ≡ leafCount s
-  same-leaf-count = before 0 (omega arith)
+  same : SameContents s s′
+  same = same-contents s s′ (λ i l. before i (omega arith))
 
-  same-derived-count : derivedCount s′ ≡ derivedCount s
-  same-derived-count = before 1 (omega arith)
-
-  same-base-count : baseCount s′ ≡ baseCount s
-  same-base-count = before 2 (omega arith)
-
-  same-contents : contentsOk s′ ≡ contentsOk s
-  same-contents = rw (f .sameLength, same-leaf-count, same-derived-count, same-base-count, before 3 (omega arith), before 4 (omega arith), before 5 (omega arith), before 6 (omega arith), before 7 (omega arith))
+  same-contents-ok : contentsOk s′ ≡ contentsOk s
+  same-contents-ok = rw (f .sameLength, same .leaves, same .derived, same .base, same .zero, same .field)
 
   -- The bodies -----------------------------------------------------------------
 
@@ -55,13 +50,13 @@ module _ {s s′ : List ℕ} (f : FilledSheet s s′) where
       p .1 ∙ (g i (p .0) ∙ sym (part-at s at size i l′ .1)))
 
   same-leaves : leavesPart s′ ≡ leavesPart s
-  same-leaves = rw same-leaf-count (same-part contentsSize (leafSize * leafCount s) (λ i l. before (contentsSize + i) (omega arith)))
+  same-leaves = rw (same .leaves) (same-part contentsSize (leafSize * leafCount s) (λ i l. before (contentsSize + i) (omega arith)))
 
   same-derived : derivedPart s′ ≡ derivedPart s
-  same-derived = rw (same-leaf-count, same-derived-count) (same-part (derivedAt (leafCount s)) (recordSize * derivedCount s) (λ i l. after (derivedAt (leafCount s) + i) (omega arith)))
+  same-derived = rw (same .leaves, same .derived) (same-part (derivedAt (leafCount s)) (recordSize * derivedCount s) (λ i l. after (derivedAt (leafCount s) + i) (omega arith)))
 
   same-base : basePart s′ ≡ basePart s
-  same-base = rw (same-leaf-count, same-derived-count, same-base-count) (same-part (baseAt (leafCount s) (derivedCount s)) (recordSize * baseCount s) (λ i l. after (baseAt (leafCount s) (derivedCount s) + i) (omega arith)))
+  same-base = rw (same .leaves, same .derived, same .base) (same-part (baseAt (leafCount s) (derivedCount s)) (recordSize * baseCount s) (λ i l. after (baseAt (leafCount s) (derivedCount s) + i) (omega arith)))
 
   -- the tables, as long as those of s
   filled-tables : FilledRow (tablesPart s) (take (2 * (leafCount s * leafCount s)) (drop (tablesAt (leafCount s)) s′))
@@ -74,20 +69,20 @@ module _ {s s′ : List ℕ} (f : FilledSheet s s′) where
       rw (p .1, part-at s′ at size i l′ .1) (f .verdicts (at + i) (omega arith, omega (arith, p .0))))
 
   same-verdicts : verdictsOk (tablesPart s′) ≡ verdictsOk (tablesPart s)
-  same-verdicts = rw same-leaf-count (row-ok filled-tables)
+  same-verdicts = rw (same .leaves) (row-ok filled-tables)
 
   -- What is read from them ------------------------------------------------------
 
   same-refusal : sheetRefusal s′ ≡ sheetRefusal s
   unfolding sheetRefusal
-  same-refusal = rw (same-contents, same-verdicts, same-leaves, same-derived, same-base, same-leaf-count)
+  same-refusal = rw (same-contents-ok, same-verdicts, same-leaves, same-derived, same-base, same .leaves)
 
   tables-filled-in : FilledIn (sheetTables s) (sheetTables s′)
   tables-filled-in =
       let n = leafCount s in
       record {
-        first = λ l m. rw same-leaf-count (row-verdict filled-tables (l * n + m));
-        second = λ l m. rw same-leaf-count (row-verdict filled-tables (n * n + l * n + m));
+        first = λ l m. rw (same .leaves) (row-verdict filled-tables (l * n + m));
+        second = λ l m. rw (same .leaves) (row-verdict filled-tables (n * n + l * n + m));
       }
 
   same-mark : markOfSheet s′ ≡ mark (sheetLeaves s) (sheetTables s′) (derivedTree s) (baseTree s)

@@ -19,7 +19,7 @@ use Rattle.language.specs.Language.{AtMost}
 use Rattle.rules.specs.Demand.{LeafKnown, Supposed}
 use Rattle.rules.proofs.Inclusion.{passes-includes}
 use Rattle.intake.specs.declared.Checked.the-variants.{Accepted}
-use Rattle.intake.specs.Faults.{leafOk, boundOk, faultOf}
+use Rattle.intake.specs.Faults.{leafOk, faultOf}
 use Rattle.intake.specs.Scan.{refusalIn}
 use Rattle.intake.proofs.Steps.{clean}
 use Rattle.verdicts.specs.Paper.{leafSize}
@@ -81,7 +81,7 @@ module _ {s : List ℕ} (a : Passed s) where
   record-known : (r : Record) (depth : ℕ) (inAll : Bool) → faultOf (knownIn s) r depth inAll ≡ Accepted → LeafKnown (sheetLeaves s) (headOf r)
   record-known r depth inAll e =
       let fields = and-true (leb (r .kind) 4) _ (clean (knownIn s) r depth inAll e .fields) .1 in
-      leaf-known (r .kind) (r .leaf) (rangeOf r) (eqb (r .count) 0) (eqb (r .leaf) 0) (and-true (leafOk (knownIn s) r) (boundOk r) fields .0)
+      leaf-known (r .kind) (r .leaf) (rangeOf r) (eqb (r .count) 0) (eqb (r .leaf) 0) (and-true (leafOk (knownIn s) r) _ fields .0)
 
   in-order : (mark min max : ℕ) → (eqb mark 1 || leb min max) ≡ true → AtMost min (maxOf mark max)
   in-order zero min max e = leb-true min max e

@@ -1,14 +1,18 @@
 -- The buffers of the marking: how long they are, and the trees that are tidied into them. Assumes nothing.
+use mathlib.Core.Bool.{Bool, true}
 use mathlib.Core.List.{List, _++_}
 use mathlib.Core.Path.{_≡_, ap, sym, _∙_}
 use Prim.Native.Nat.{ℕ, _*_, _≤_}
 use native.Mathlib.Omega.{arith}
+use lib.Dec.{leb}
+use borrow.Author.Tests.{leb-true}
 use lib.ListN.{length, take, drop, length-append}
 use lib.Seq.{length-take-le, take-at}
 use Rattle.particle.specs.Record.{recordSize, maxRecords}
 use Rattle.particle.specs.Tree.{tree}
 use Rattle.particle.specs.Rows.{Row}
 use Rattle.particle.specs.Runs.{Run}
+use Rattle.particle.proofs.Tests.{and-true}
 use Rattle.particle.proofs.Encoded.{encoded-row, encoded-tree}
 use Rattle.tidying.specs.Tidy.{tidy}
 use Rattle.tidying.specs.Laid.{StartsWith}
@@ -16,12 +20,22 @@ use Rattle.sheet.specs.declared.SheetChecked.the-variants.{Accepted}
 use Rattle.sheet.specs.Layout.{derivedPart, basePart}
 use Rattle.sheet.specs.Refused.{sheetRefusal}
 use Rattle.sheet.proofs.AcceptedSheet.{passed, derived-few, base-few}
-use Rattle.marking.specs.Buffers.{Buffer, Prepared}
+use Rattle.marking.specs.Buffers.{Buffer, Prepared, bothFit}
 
--- an array of n bytes is a buffer for t; one as long as the longest tree is one for either tree of a sheet
-pub buffer : {t out : List ℕ} (n : ℕ) → length out ≡ n → length t ≤ n → n ≤ recordSize * maxRecords → Buffer t out
-buffer n e room most = record { room = omega (arith, e, room); most = omega (arith, e, most) }
+-- where both trees of a sheet have at most n bytes, an array of n bytes is a buffer for either
+module _ (s : List ℕ) {n : ℕ} {r : Bool} (e : r ≡ bothFit s n) (t : r ≡ true) where
+  fit : (length (derivedPart s) ≤ n) × (length (basePart s) ≤ n)
+  fit =
+      let b = and-true (leb (length (derivedPart s)) n) (leb (length (basePart s)) n) (sym e ∙ t) in
+      (leb-true (length (derivedPart s)) n (b .0), leb-true (length (basePart s)) n (b .1))
 
+  pub derived-fits : n ≤ recordSize * maxRecords → {out : List ℕ} → length out ≡ n → Buffer (derivedPart s) out
+  derived-fits most l = record { room = omega (arith, fit .0); most = omega arith }
+
+  pub base-fits : n ≤ recordSize * maxRecords → {out : List ℕ} → length out ≡ n → Buffer (basePart s) out
+  base-fits most l = record { room = omega (arith, fit .1); most = omega arith }
+
+-- and one as long as the longest tree always is
 module _ (s : List ℕ) (a : sheetRefusal s ≡ Accepted) {out : List ℕ} (l : length out ≡ recordSize * maxRecords) where
   pub derived-buffer : Buffer (derivedPart s) out
   derived-buffer = record { room = omega (arith, derived-few (passed s a)); most = omega arith }

@@ -1,4 +1,4 @@
--- Document 01's examples over what the entries answer: the sheet that it prints, and its P examples. Assumes nothing: these are definitions.
+-- Document 01's P examples over what the entries answer. Assumes nothing: these are definitions.
 use mathlib.Core.List.{List, [], _∷_}
 use mathlib.Core.Path.{_≡_}
 use Prim.Native.Nat.{ℕ}
@@ -11,17 +11,6 @@ use Rattle.entries.specs.TidyAnswer.{startingWith, tidyAnswer, tidyBuffer}
 use Rattle.sheet.specs.declared.bodies.Leaf.{Leaf}
 use Rattle.sheet.specs.Fits.{Paper, encodeSheet}
 use Rattle.marking.specs.Answer.{markSheet}
-
--- the sheet that document 01 prints, of 38 bytes: a | a(0,1)
-abbrev pub printedSheet : List ℕ
-printedSheet =
-    1 ∷ 1 ∷ 1 ∷ 0 ∷ 38 ∷ 0 ∷ 0 ∷ 0
-    ∷ 0 ∷ 0 ∷ 0 ∷ 0
-    ∷ 0
-    ∷ 0
-    ∷ 0 ∷ 0 ∷ 0 ∷ 0 ∷ 1 ∷ 0 ∷ 0 ∷ 0 ∷ 1 ∷ 0 ∷ 0 ∷ 0
-    ∷ 0 ∷ 0 ∷ 0 ∷ 0 ∷ 0 ∷ 0 ∷ 0 ∷ 0 ∷ 1 ∷ 0 ∷ 0 ∷ 0
-    ∷ []
 
 -- the letters a, b, c and the wildcard w; equal letters ok, others 140
 abbrev pub letter : (name : ℕ) → Leaf

@@ -11,7 +11,7 @@ ghost use Rattle.verdicts.specs.Reasons.{markOf};
 ghost use Rattle.sheet.specs.declared.SheetChecked.the-variants.{Accepted};
 ghost use Rattle.sheet.specs.Refused.{sheetRefusal};
 ghost use Rattle.sheet.specs.Layout.{derivedPart, basePart};
-ghost use Rattle.marking.specs.Buffers.{Buffer, Prepared};
+ghost use Rattle.marking.specs.Buffers.{Buffer, Prepared, bothFit};
 ghost use Rattle.marking.specs.Answer.{markOfSheet, markSheet, markMeaning, SetInRange};
 use intake::Refusal;
 use sheet::SheetChecked;
@@ -21,8 +21,10 @@ use verdicts::Verdict;
 // The length of the longest tree in bytes.
 const CAPACITY: usize = particle::RECORD_SIZE * particle::MAX_RECORDS;
 
-// The length of a short tree in bytes: for short trees no long buffers are cleared.
-const FEW: usize = 384;
+// The lengths of a short and of a middling tree in bytes: for these no long buffers are cleared.
+const SHORT: usize = 512;
+
+const MIDDLE: usize = 2048;
 
 // What marking a sheet is answered by.
 pub enum MarkAnswer {
@@ -97,17 +99,31 @@ fn mark_in(s: &[u8], derived: &mut [u8], base: &mut [u8]) -> Verdict
     )
 }
 
+// Whether both trees of an accepted sheet have at most n bytes.
+fn both_fit(s: &[u8], n: usize) -> bool
+    requires { ⌜ sheetRefusal (now s) ≡ Accepted ⌝ }
+    ensures { λ r. ⌜ r ≡ bothFit (now (s .entry)) n ⌝ }
+{
+    if sheet::derived(s).len() <= n {
+        return sheet::base(s).len() <= n;
+    }
+    false
+}
+
 // The same, with buffers of its own.
 fn mark_accepted(s: &[u8]) -> Verdict
     requires { ⌜ sheetRefusal (now s) ≡ Accepted ⌝ }
     ensures { λ r. ⌜ markOf r ≡ markOfSheet (now (s .entry)) ⌝ }
 {
-    if sheet::derived(s).len() <= FEW {
-        if sheet::base(s).len() <= FEW {
-            let mut derived = [0u8; FEW];
-            let mut base = [0u8; FEW];
-            return mark_in(s, &mut derived, &mut base);
-        }
+    if both_fit(s, SHORT) {
+        let mut derived = [0u8; SHORT];
+        let mut base = [0u8; SHORT];
+        return mark_in(s, &mut derived, &mut base);
+    }
+    if both_fit(s, MIDDLE) {
+        let mut derived = [0u8; MIDDLE];
+        let mut base = [0u8; MIDDLE];
+        return mark_in(s, &mut derived, &mut base);
     }
     let mut derived = [0u8; CAPACITY];
     let mut base = [0u8; CAPACITY];

@@ -1,4 +1,5 @@
 pub mod Tests
+pub mod Fields
 pub mod Records
 pub mod Store
 pub mod Copied

@@ -4,42 +4,41 @@ use mathlib.Core.List.{List, [], _∷_}
 use Prim.Native.Nat.{ℕ, zero, suc, _+_, _*_, _-_, _/_, _%_, _≤_, _<_}
 use native.Mathlib.Omega.{arith}
 use lib.ListN.{length, take, drop, getD, set, length-drop, length-set}
-use lib.Seq.{take-take, take-add, drop-at, length-take-le, drop-drop, drop-length, getD-drop, getD-take, take-set-le, drop-set-lt, drop-set-add, getD-set-same, getD-set-other}
+use lib.Seq.{sets, length-sets, take-take, take-add, drop-at, length-take-le, drop-drop, drop-length, getD-drop, getD-take, take-set-le, drop-set-lt, drop-set-add, getD-set-same, getD-set-other}
 use Rattle.particle.specs.declared.Record.{Record}
-use Rattle.particle.specs.Record.{recordSize, maxRecords, atKind, atLeaf, atCount, atUnbounded, atMin, atMax, word, recordAt, rangeOf}
-use Rattle.particle.specs.Tree.{takeI, countI, sizeI, headFrom, headOf, build, records, decode, firstOf, tree}
+use Rattle.particle.specs.Record.{recordSize, maxRecords, atKind, atLeaf, atCount, atUnbounded, atZero, atSize, atMin, atMax, half, halfBytes, word, recordAt}
+use Rattle.particle.specs.Tree.{takeI, countI, sizeI, headOf, build, records, decode, firstOf, tree}
 use Rattle.particle.specs.Rows.{Complete, Row, row}
 use Rattle.particle.specs.Runs.{Measured, Run}
+use Rattle.particle.proofs.Fields.{withSize}
 use Rattle.particle.proofs.Records.{records-cons, records-short, records-drop, length-records}
 use Rattle.particle.proofs.Trees.{complete-drop, sizeI-split, sizeI-build}
 use Rattle.particle.proofs.Laws.{part-is}
+use Rattle.particle.proofs.RoundTrip.{halves}
 
--- r with another leaf number
-abbrev withLeaf : Record → ℕ → Record
-withLeaf r v = record { kind = r .kind; leaf = v; count = r .count; unbounded = r .unbounded; min = r .min; max = r .max }
+-- a number stored in the last two zero bytes of a record, of which the head reads none
+module _ (s : List ℕ) (v : ℕ) where
+  abbrev Stored : List ℕ
+  Stored = sets s atSize (halfBytes v)
 
--- a group's head has none
-group-head : (r : Record) (v : ℕ) → 2 ≤ r .kind → headOf (withLeaf r v) ≡ headOf r
-group-head r v = go (r .kind)
-  where
-    go : (k : ℕ) → 2 ≤ k → headFrom k v (rangeOf r) ≡ headFrom k (r .leaf) (rangeOf r)
-    go zero h = absurd (omega arith)
-    go (suc zero) h = absurd (omega arith)
-    go (suc (suc zero)) h = refl
-    go (suc (suc (suc zero))) h = refl
-    go (suc (suc (suc (suc k)))) h = refl
+  other : (i : ℕ) → (i ≡ atSize → ⊥) → (i ≡ suc atSize → ⊥) → getD Stored i 0 ≡ getD s i 0
+  other i m n = getD-set-other (set s atSize (v % 256)) (suc atSize) i (v / 256) 0 n ∙ getD-set-other s atSize i (v % 256) 0 m
 
--- a leaf number stored
-word-past : (s : List ℕ) (at i v : ℕ) → at < i → word (set s at v) i ≡ word s i
-word-past s at i v h =
-    let o : (j : ℕ) → i ≤ j → getD (set s at v) j 0 ≡ getD s j 0 = λ j l. getD-set-other s at j v 0 (λ e. omega arith) in
-    rw (o i (omega arith), o (i + 1) (omega arith), o (i + 2) (omega arith), o (i + 3) (omega arith))
+  before-it : (i : ℕ) → i < atSize → getD Stored i 0 ≡ getD s i 0
+  before-it i h = other i (λ e. omega arith) (λ e. omega arith)
 
-leaf-stored : (s : List ℕ) (v : ℕ) → recordSize ≤ length s → recordAt (set s atLeaf v) ≡ withLeaf (recordAt s) v
-leaf-stored s v h =
-    let o : (i : ℕ) → (i ≡ atLeaf → ⊥) → getD (set s atLeaf v) i 0 ≡ getD s i 0 = λ i n. getD-set-other s atLeaf i v 0 n in
-    let w : (i : ℕ) → atLeaf < i → word (set s atLeaf v) i ≡ word s i = λ i l. word-past s atLeaf i v l in
-    rw (getD-set-same s atLeaf v 0 (omega arith), o atKind (λ e. omega arith), o atCount (λ e. omega arith), o atUnbounded (λ e. omega arith), w atMin (omega arith), w atMax (omega arith))
+  after-it : (i : ℕ) → suc atSize < i → getD Stored i 0 ≡ getD s i 0
+  after-it i h = other i (λ e. omega arith) (λ e. omega arith)
+
+  word-past : (i : ℕ) → suc atSize < i → word Stored i ≡ word s i
+  word-past i h = rw (after-it i h, after-it (i + 1) (omega arith), after-it (i + 2) (omega arith), after-it (i + 3) (omega arith))
+
+  size-stored : recordSize ≤ length s → recordAt Stored ≡ withSize (recordAt s) v
+  size-stored h =
+      let low : getD Stored atSize 0 ≡ v % 256 = getD-set-other (set s atSize (v % 256)) (suc atSize) atSize (v / 256) 0 (λ e. omega arith) ∙ getD-set-same s atSize (v % 256) 0 (omega arith) in
+      let high : getD Stored (atSize + 1) 0 ≡ v / 256 = getD-set-same (set s atSize (v % 256)) (suc atSize) (v / 256) 0 (omega (arith, length-set s atSize (v % 256))) in
+      let size : half Stored atSize ≡ v = rw (low, high) (halves v) in
+      rw (size, before-it atKind (omega arith), before-it atLeaf (omega arith), before-it atCount (omega arith), before-it (atCount + 1) (omega arith), before-it atUnbounded (omega arith), before-it atZero (omega arith), word-past atMin (omega arith), word-past atMax (omega arith))
 
 -- a record is its bytes
 word-front : (n i : ℕ) (s : List ℕ) → i + 4 ≤ n → word (take n s) i ≡ word s i
@@ -49,7 +48,7 @@ record-front : (s : List ℕ) → recordAt (take recordSize s) ≡ recordAt s
 record-front s =
     let b : (i : ℕ) → i < recordSize → getD (take recordSize s) i 0 ≡ getD s i 0 = λ i h. getD-take recordSize s i 0 h in
     let w : (i : ℕ) → i + 4 ≤ recordSize → word (take recordSize s) i ≡ word s i = λ i h. word-front recordSize i s h in
-    rw (b atKind (omega arith), b atLeaf (omega arith), b atCount (omega arith), b atUnbounded (omega arith), w atMin (omega arith), w atMax (omega arith))
+    rw (b atKind (omega arith), b atLeaf (omega arith), b atCount (omega arith), b (atCount + 1) (omega arith), b atUnbounded (omega arith), b atZero (omega arith), b atSize (omega arith), b (atSize + 1) (omega arith), w atMin (omega arith), w atMax (omega arith))
 
 -- from `at` on; one tree was lent
 pub record MeasuredFrom (before t : List ℕ) (at : ℕ) : Type 0 where
@@ -75,7 +74,7 @@ module _ {before : List ℕ} where
   all-measured {t} {at} a h =
       let z : at ≡ 0 = omega arith in
       let b : MeasuredFrom before t 0 = rw z at a in
-      (record { row = record { even = omega (arith, b .whole .even, b .same); complete = b .complete; enough = rw (b .trees) (b .whole .enough) }; measured = b .measured }, ap firstOf (b .trees))
+      (record { row = record { even = omega (arith, b .whole .even, b .same); complete = b .complete; enough = rw (b .trees) (b .whole .enough) }; measured = b .measured; few = omega (arith, b .few, b .same) }, ap firstOf (b .trees))
 
   -- one turn: the record at p, and what stands from `at` on
   module _ {t : List ℕ} {at : ℕ} (a : MeasuredFrom before t at) (some : 0 < at) where
@@ -117,7 +116,7 @@ module _ {before : List ℕ} where
     -- with the record there as it was, or with another leaf number where it is a group's
     record-measured : {after : List ℕ} (r : Record) → length after ≡ length t → take (at - recordSize) after ≡ take (at - recordSize) t → drop at after ≡ drop at t → recordAt (drop (at - recordSize) after) ≡ r
         → headOf r ≡ headOf (recordAt (drop (at - recordSize) before)) → r .count ≡ recordAt (drop (at - recordSize) before) .count
-        → (2 ≤ r .kind → r .leaf ≡ suc (sizeI (row (r .count) (drop at t)))) → MeasuredFrom before after (at - recordSize)
+        → (2 ≤ r .kind → r .size ≡ suc (sizeI (row (r .count) (drop at t)))) → MeasuredFrom before after (at - recordSize)
     unfolding Complete Measured decode build takeI sizeI
     record-measured {after} r same front back here head count size =
         let h : recordSize ≤ length (drop (at - recordSize) before) = omega (arith, long, a .within, length-drop (at - recordSize) before) in
@@ -153,7 +152,7 @@ module _ {before : List ℕ} where
       pub items-measured : Run count Rest
       items-measured =
           let e : count ≡ recordAt (drop (at - recordSize) before) .count = c ∙ ap (λ (r : Record). r .count) record-same in
-          rw rest-is (record { row = record { even = omega (arith, a .whole .even, a .same, a .even, a .within, length-drop at t); complete = a .complete; enough = rw e count-fits }; measured = a .measured })
+          rw rest-is (record { row = record { even = omega (arith, a .whole .even, a .same, a .even, a .within, length-drop at t); complete = a .complete; enough = rw e count-fits }; measured = a .measured; few = omega (arith, a .few, a .same, length-drop at t) })
 
       -- whose items take n bytes
       module _ {n : ℕ} (e : n ≡ recordSize * sizeI (row count Rest)) where
@@ -166,9 +165,16 @@ module _ {before : List ℕ} where
         unfolding decode
         size-fits = omega (arith, size-is, sizeI-split (recordAt (drop (at - recordSize) t) .count) (build (records (drop at t))), sizeI-build (records (drop at t)), length-records (drop at t), length-drop at t, a .same, long, a .few)
 
-        pub group-measured : 2 ≤ getD t (at - recordSize + atKind) 0 → MeasuredFrom before (set t (at - recordSize + atLeaf) (n / recordSize + 1)) (at - recordSize)
+        pub group-measured : {after : List ℕ} → after ≡ sets t (at - recordSize + atSize) (halfBytes (n / recordSize + 1)) → MeasuredFrom before after (at - recordSize)
         group-measured g =
+            let p = at - recordSize in
             let v = n / recordSize + 1 in
-            record-measured (withLeaf (recordAt (drop (at - recordSize) t)) v) (length-set t (at - recordSize + atLeaf) v) (take-set-le (at - recordSize) t (at - recordSize + atLeaf) v (omega arith)) (drop-set-lt at t (at - recordSize + atLeaf) v (omega (arith, long)))
-            (ap recordAt (drop-set-add (at - recordSize) t atLeaf v) ∙ leaf-stored (drop (at - recordSize) t) v record-long)
-            (group-head (recordAt (drop (at - recordSize) t)) v (omega (arith, g, kind-is)) ∙ ap headOf record-same) (ap (λ (r : Record). r .count) record-same) (λ _. size-is)
+            let q : suc (p + atSize) ≡ p + suc atSize = omega arith in
+            let after = sets t (p + atSize) (halfBytes v) in
+            let one = set t (p + atSize) (v % 256) in
+            rw g
+            (record-measured (withSize (recordAt (drop p t)) v) (length-sets t (p + atSize) (halfBytes v))
+            (take-set-le p one (suc (p + atSize)) (v / 256) (omega arith) ∙ take-set-le p t (p + atSize) (v % 256) (omega arith))
+            (drop-set-lt at one (suc (p + atSize)) (v / 256) (omega (arith, long)) ∙ drop-set-lt at t (p + atSize) (v % 256) (omega (arith, long)))
+            (ap recordAt (ap (λ (i : ℕ). drop p (set one i (v / 256))) q ∙ (drop-set-add p one (suc atSize) (v / 256) ∙ ap (λ (l : List ℕ). set l (suc atSize) (v / 256)) (drop-set-add p t atSize (v % 256)))) ∙ size-stored (drop p t) v record-long)
+            (ap headOf record-same) (ap (λ (r : Record). r .count) record-same) (λ _. size-is))

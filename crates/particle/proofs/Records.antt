@@ -5,9 +5,15 @@ use Prim.Native.Nat.{ℕ, zero, suc, _+_, _*_, _-_, _/_, _≤_, _<_}
 use native.Mathlib.Omega.{arith}
 use native.Mathlib.Decide.{decLe}
 use lib.ListN.{length, drop, length-drop}
-use lib.Seq.{drop-drop}
-use Rattle.particle.specs.Record.{recordSize, recordAt}
+use lib.Seq.{drop-drop, getD-drop}
+use Rattle.particle.specs.Record.{recordSize, half, recordAt}
 use Rattle.particle.specs.Tree.{records, recordsN}
+
+-- the 16-bit number at byte i, counted from byte n on
+pub half-drop : (n : ℕ) (t : List ℕ) (i : ℕ) → half (drop n t) i ≡ half t (n + i)
+half-drop n t i =
+    let e : n + (i + 1) ≡ n + i + 1 = omega arith in
+    rw (getD-drop n t i 0, getD-drop n t (i + 1) 0, e)
 
 pub records-cons : (t : List ℕ) → recordSize ≤ length t → records t ≡ recordAt t ∷ records (drop recordSize t)
 unfolding records recordsN

@@ -11,7 +11,7 @@ use Rattle.particle.specs.declared.MaxOccurs.{MaxOccurs}
 use Rattle.particle.specs.declared.MaxOccurs.the-variants.{Bounded, Unbounded}
 use Rattle.particle.specs.declared.Occurs.{Occurs}
 use Rattle.particle.specs.declared.Record.{Record}
-use Rattle.particle.specs.Record.{recordSize, atMin, atMax, recordAt, recordBytes, word, wordBytes, maxOf}
+use Rattle.particle.specs.Record.{recordSize, atCount, atSize, atMin, atMax, recordAt, recordBytes, half, halfBytes, word, wordBytes, maxOf}
 use Rattle.particle.specs.Tree.{Head, element, wildcard, sequence, choice, all, Items, none, item, _then_, takeI, dropI, countI, headOf, build, records, recordsN, decode}
 use Rattle.particle.specs.Encode.{markNumber, maxNumber, recordOf, flat, joined, encode, Bytes, Faithful}
 use Rattle.particle.specs.Rows.{Complete}
@@ -69,11 +69,14 @@ flat-build (r ∷ rs) c f = rw (countI-take (r .count) (build rs) (c .0), flat-s
 
 -- Records and bytes ------------------------------------------------------------
 
+pub halves : (n : ℕ) → n % 256 + n / 256 * 256 ≡ n
+halves n = omega arith
+
 pub quarters : (n : ℕ) → n % 256 + n / 256 % 256 * 256 + n / 65536 % 256 * 65536 + n / 16777216 * 16777216 ≡ n
 quarters n = omega arith
 
 pub record-bytes : (r : Record) (t : List ℕ) → recordAt (recordBytes r ++ t) ≡ r
-record-bytes r t = λ i. record { kind = r .kind; leaf = r .leaf; count = r .count; unbounded = r .unbounded; min = quarters (r .min) i; max = quarters (r .max) i }
+record-bytes r t = λ i. record { kind = r .kind; leaf = r .leaf; count = halves (r .count) i; unbounded = r .unbounded; zero = r .zero; size = halves (r .size) i; min = quarters (r .min) i; max = quarters (r .max) i }
 
 pub records-joined : (rs : List Record) → records (joined rs) ≡ rs
 unfolding joined
@@ -93,7 +96,13 @@ from-drop (suc n) i t h =
     let e : i + suc n ≡ suc i + n = omega arith in
     rw (e, from-drop n (suc i) t h₁) (sym (drop-cons t i 0 (omega arith)))
 
--- the bytes of the number that four bytes are
+-- the bytes of the number that two bytes are, and four
+pub half-bytes : (a b : ℕ) → a < 256 → halfBytes (a + b * 256) ≡ a ∷ b ∷ []
+half-bytes a b h =
+    let low : (a + b * 256) % 256 ≡ a = omega arith in
+    let high : (a + b * 256) / 256 ≡ b = omega arith in
+    rw (low, high)
+
 pub word-bytes : (a b c d : ℕ) → a < 256 → b < 256 → c < 256 → wordBytes (a + b * 256 + c * 65536 + d * 16777216) ≡ a ∷ b ∷ c ∷ d ∷ []
 word-bytes a b c d ha hb hc =
     let n : ℕ = a + b * 256 + c * 65536 + d * 16777216 in
@@ -124,13 +133,19 @@ bytes-take (suc k) [] b = b
 bytes-take (suc k) (x ∷ t) b = (b .0, bytes-take k t (b .1))
 
 -- and of the number at byte i
+pub half-from : (t : List ℕ) → Bytes t → (i : ℕ) → halfBytes (half t i) ≡ from 2 i t
+unfolding from
+half-from t b i = half-bytes (getD t i 0) (getD t (i + 1) 0) (byte-at t b i) ∙ simp towards-suc
+
 pub word-from : (t : List ℕ) → Bytes t → (i : ℕ) → wordBytes (word t i) ≡ from 4 i t
 unfolding from
 word-from t b i = word-bytes (getD t i 0) (getD t (i + 1) 0) (getD t (i + 2) 0) (getD t (i + 3) 0) (byte-at t b i) (byte-at t b (i + 1)) (byte-at t b (i + 2)) ∙ simp towards-suc
 
 first-bytes : (t : List ℕ) → Bytes t → recordSize ≤ length t → recordBytes (recordAt t) ++ drop recordSize t ≡ t
 unfolding from
-first-bytes t b h = (λ i. recordAt t .kind ∷ recordAt t .leaf ∷ recordAt t .count ∷ recordAt t .unbounded ∷ ((word-from t b atMin i ++ word-from t b atMax i) ++ drop recordSize t)) ∙ from-drop recordSize 0 t h
+first-bytes t b h =
+    (λ i. recordAt t .kind ∷ recordAt t .leaf ∷ ((half-from t b atCount i ++ (recordAt t .unbounded ∷ recordAt t .zero ∷ (half-from t b atSize i ++ (word-from t b atMin i ++ word-from t b atMax i)))) ++ drop recordSize t))
+    ∙ from-drop recordSize 0 t h
 
 joined-from : (n : ℕ) (t : List ℕ) → Bytes t → length t ≡ recordSize * n → joined (recordsN n t) ≡ t
 unfolding joined recordsN

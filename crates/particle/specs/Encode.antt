@@ -34,7 +34,7 @@ maxNumber Unbounded = 0
 
 -- the record of a head with n items
 abbrev pub recordOf : Head → ℕ → Record
-recordOf h n = record { kind = kindNumber h; leaf = leafNumber h; count = n; unbounded = markNumber (pairOf h .max); min = pairOf h .min; max = maxNumber (pairOf h .max) }
+recordOf h n = record { kind = kindNumber h; leaf = leafNumber h; count = n; unbounded = markNumber (pairOf h .max); zero = 0; size = 0; min = pairOf h .min; max = maxNumber (pairOf h .max) }
 
 -- the records of trees side by side, in preorder
 unfoldable pub flat : Items → List Record

@@ -9,7 +9,7 @@ use Rattle.particle.specs.declared.Record.{Record}
 
 -- the length of a record in bytes
 abbrev pub recordSize : ℕ
-recordSize = 12
+recordSize = 16
 
 -- where its fields start
 abbrev pub atKind : ℕ
@@ -22,33 +22,47 @@ abbrev pub atCount : ℕ
 atCount = 2
 
 abbrev pub atUnbounded : ℕ
-atUnbounded = 3
+atUnbounded = 4
+
+abbrev pub atZero : ℕ
+atZero = 5
+
+abbrev pub atSize : ℕ
+atSize = 6
 
 abbrev pub atMin : ℕ
-atMin = 4
+atMin = 8
 
 abbrev pub atMax : ℕ
-atMax = 8
+atMax = 12
 
--- a tree has at most so many records: the most that a count of one byte can tell
+-- a tree has at most so many records
 abbrev pub maxRecords : ℕ
-maxRecords = 255
+maxRecords = 1000
 
--- the 32-bit number at byte i, little-endian
+-- the 16-bit and the 32-bit number at byte i, little-endian
+abbrev pub half : List ℕ → ℕ → ℕ
+half s i = getD s i 0 + getD s (i + 1) 0 * 256
+
 abbrev pub word : List ℕ → ℕ → ℕ
 word s i = getD s i 0 + getD s (i + 1) 0 * 256 + getD s (i + 2) 0 * 65536 + getD s (i + 3) 0 * 16777216
 
--- the record that t starts with: kind, leaf number, item count, unbounded mark, minimum, maximum
+-- the record that t starts with: kind, leaf number, item count, unbounded mark, three zero bytes, minimum, maximum; `size` is the last two of the zero bytes, in
+-- which a measured tree has a number (Runs)
 abbrev pub recordAt : List ℕ → Record
-recordAt t = record { kind = getD t atKind 0; leaf = getD t atLeaf 0; count = getD t atCount 0; unbounded = getD t atUnbounded 0; min = word t atMin; max = word t atMax }
+recordAt t =
+    record { kind = getD t atKind 0; leaf = getD t atLeaf 0; count = half t atCount; unbounded = getD t atUnbounded 0; zero = getD t atZero 0; size = half t atSize; min = word t atMin; max = word t atMax }
 
--- the four bytes of a 32-bit number
+-- the bytes of a 16-bit and of a 32-bit number
+abbrev pub halfBytes : ℕ → List ℕ
+halfBytes n = n % 256 ∷ n / 256 ∷ []
+
 abbrev pub wordBytes : ℕ → List ℕ
 wordBytes n = n % 256 ∷ n / 256 % 256 ∷ n / 65536 % 256 ∷ n / 16777216 ∷ []
 
 -- the bytes of a record, its fields in this order
 abbrev pub recordBytes : Record → List ℕ
-recordBytes r = r .kind ∷ r .leaf ∷ r .count ∷ r .unbounded ∷ (wordBytes (r .min) ++ wordBytes (r .max))
+recordBytes r = r .kind ∷ r .leaf ∷ (halfBytes (r .count) ++ (r .unbounded ∷ r .zero ∷ (halfBytes (r .size) ++ (wordBytes (r .min) ++ wordBytes (r .max)))))
 
 -- a maximum, by the unbounded mark
 abbrev pub maxOf : ℕ → ℕ → MaxOccurs

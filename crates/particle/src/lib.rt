@@ -5,16 +5,17 @@ ghost use mathlib.Core.Path.{_≡_};
 ghost use Prim.Native.Nat.{_+_, _%_, _≤_, _<_};
 ghost use lib.ListN.{length, drop};
 ghost use lib.Seq.{sets};
-ghost use Rattle.particle.specs.Occurs.{isZero, rangeOk};
-ghost use Rattle.particle.specs.Record.{recordSize, recordAt, word, recordBytes, wordBytes, rangeOf};
+ghost use Rattle.particle.specs.Occurs.{exactly, isZero, rangeOk};
+ghost use Rattle.particle.specs.Record.{recordSize, recordAt, half, word, recordBytes, halfBytes, wordBytes, rangeOf};
 ghost use Rattle.particle.specs.Write.{overwrite};
-ghost use Rattle.particle.specs.Tree.{records};
+ghost use Rattle.particle.specs.Tree.{sequence, records};
+ghost use Rattle.particle.specs.Encode.{recordOf};
 ghost use Rattle.particle.specs.Rows.{Row, itemsPart, laterPart, runSize, itemStart, itemRun, ItemAt, PartOf};
 pub use measured::measure;
 pub use measured::next;
 
 // The length of a record in bytes.
-pub const RECORD_SIZE: usize = 12;
+pub const RECORD_SIZE: usize = 16;
 
 // Where its fields start. Nothing else in the code says the layout.
 const AT_KIND: usize = 0;
@@ -23,14 +24,18 @@ const AT_LEAF: usize = 1;
 
 const AT_COUNT: usize = 2;
 
-const AT_UNBOUNDED: usize = 3;
+const AT_UNBOUNDED: usize = 4;
 
-const AT_MIN: usize = 4;
+const AT_ZERO: usize = 5;
 
-const AT_MAX: usize = 8;
+const AT_SIZE: usize = 6;
 
-// A tree has at most so many records: the most that a count of one byte can tell.
-pub const MAX_RECORDS: usize = 255;
+const AT_MIN: usize = 8;
+
+const AT_MAX: usize = 12;
+
+// A tree has at most so many records.
+pub const MAX_RECORDS: usize = 1000;
 
 pub const ELEMENT: u8 = 0;
 
@@ -54,12 +59,14 @@ pub struct Occurs {
     pub max: MaxOccurs,
 }
 
-// One record, taken apart.
+// One record, taken apart. `zero` and `size` are its three zero bytes; a measured tree has a number in `size`.
 pub struct Record {
     pub kind: u8,
     pub leaf: u8,
-    pub count: u8,
+    pub count: u16,
     pub unbounded: u8,
+    pub zero: u8,
+    pub size: u16,
     pub min: u32,
     pub max: u32,
 }
@@ -68,6 +75,14 @@ fn wide(x: u8) -> u32
     ensures { λ r. ⌜ (r ≡ x) × (r < 256) ⌝ }
 {
     x as u32
+}
+
+// The two bytes at `at`, the lower first.
+pub fn read_u16(s: &[u8], at: usize) -> u16
+    requires { ⌜ at + 2 ≤ length (now s) ⌝ }
+    ensures { λ r. ⌜ r ≡ half (now (s .entry)) at ⌝ }
+{
+    (wide(s[at]) + wide(s[at + 1]) * 256) as u16
 }
 
 // The four bytes at `at`, the lowest first.
@@ -86,8 +101,10 @@ pub fn record_at(t: &[u8]) -> Record
     Record {
         kind: t[AT_KIND],
         leaf: t[AT_LEAF],
-        count: t[AT_COUNT],
+        count: read_u16(t, AT_COUNT),
         unbounded: t[AT_UNBOUNDED],
+        zero: t[AT_ZERO],
+        size: read_u16(t, AT_SIZE),
         min: read_u32(t, AT_MIN),
         max: read_u32(t, AT_MAX),
     }
@@ -97,6 +114,15 @@ fn low_byte(x: u32) -> u8
     ensures { λ r. ⌜ r ≡ x % 256 ⌝ }
 {
     (x % 256) as u8
+}
+
+// The two bytes of x at `at`, the lower first.
+fn write_u16(out: &mut [u8], at: usize, x: u16)
+    requires { ⌜ at + 2 ≤ length (now out) ⌝ }
+    ensures { λ _. ⌜ now (out .exit) ≡ sets (now (out .entry)) at (halfBytes x) ⌝ }
+{
+    out[at] = (x % 256) as u8;
+    out[at + 1] = (x / 256) as u8;
 }
 
 // The four bytes of x at `at`, the lowest first.
@@ -117,8 +143,10 @@ pub fn write_record(out: &mut [u8], at: usize, r: Record)
 {
     out[at + AT_KIND] = r.kind;
     out[at + AT_LEAF] = r.leaf;
-    out[at + AT_COUNT] = r.count;
+    write_u16(out, at + AT_COUNT, r.count);
     out[at + AT_UNBOUNDED] = r.unbounded;
+    out[at + AT_ZERO] = r.zero;
+    write_u16(out, at + AT_SIZE, r.size);
     write_u32(out, at + AT_MIN, r.min);
     write_u32(out, at + AT_MAX, r.max);
 }
@@ -128,7 +156,23 @@ fn count_at(t: &[u8], at: usize) -> usize
     requires { ⌜ at + recordSize ≤ length (now t) ⌝ }
     ensures { λ r. ⌜ r ≡ recordAt (drop at (now (t .entry))) .count ⌝ }
 {
-    t[at + AT_COUNT] as usize
+    read_u16(t, at + AT_COUNT) as usize
+}
+
+// The record of a (1,1) sequence of n items.
+pub fn sequence_of(n: u16) -> Record
+    ensures { λ r. ⌜ r ≡ recordOf (sequence (exactly 1)) n ⌝ }
+{
+    Record {
+        kind: SEQUENCE,
+        leaf: 0,
+        count: n,
+        unbounded: 0,
+        zero: 0,
+        size: 0,
+        min: 1,
+        max: 1,
+    }
 }
 
 // The occurrence pair of a record.

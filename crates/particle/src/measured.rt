@@ -1,5 +1,5 @@
-// Measured trees: a group's record has, in place of the leaf number 0, how many records the group's tree takes. The tree is the
-// same, and what follows it is found without reading its records.
+// Measured trees: a group's record has, in its last two zero bytes, how many records the group's tree takes. The tree is the same, and
+// what follows it is found without reading its records.
 ghost use mathlib.Core.Path.{_≡_};
 ghost use Prim.Native.Nat.{_*_, _≤_};
 ghost use lib.ListN.{length};
@@ -8,11 +8,13 @@ ghost use Rattle.particle.specs.Tree.{sizeI, tree};
 ghost use Rattle.particle.specs.Rows.{Row, row, laterPart};
 ghost use Rattle.particle.specs.Runs.{Run};
 use crate::AT_KIND;
-use crate::AT_LEAF;
+use crate::AT_SIZE;
 use crate::RECORD_SIZE;
 use crate::SEQUENCE;
 use crate::count_at;
 use crate::later;
+use crate::read_u16;
+use crate::write_u16;
 
 // The part of t that starts after the first tree.
 pub fn next(t: &[u8]) -> &[u8]
@@ -22,7 +24,7 @@ pub fn next(t: &[u8]) -> &[u8]
     if t[AT_KIND] < SEQUENCE {
         return later(t);
     }
-    let n = RECORD_SIZE * (t[AT_LEAF] as usize);
+    let n = RECORD_SIZE * (read_u16(t, AT_SIZE) as usize);
     &t[n..]
 }
 
@@ -53,7 +55,7 @@ pub fn measure(t: &mut [u8])
         if t[at + AT_KIND] >= SEQUENCE {
             let count = count_at(t, at);
             let n = row_len(&t[at + RECORD_SIZE..], count);
-            t[at + AT_LEAF] = (n / RECORD_SIZE + 1) as u8;
+            write_u16(t, at + AT_SIZE, (n / RECORD_SIZE + 1) as u16);
         }
     }
 }

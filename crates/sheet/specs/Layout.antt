@@ -2,28 +2,28 @@
 use mathlib.Core.List.{List, [], _∷_, _++_}
 use Prim.Native.Nat.{ℕ, zero, suc, _+_, _*_}
 use lib.ListN.{getD, take, drop}
-use Rattle.particle.specs.Record.{recordSize, word, wordBytes}
+use Rattle.particle.specs.Record.{recordSize, half, halfBytes}
 use Rattle.verdicts.specs.Paper.{leafSize, kindAt, processAt, nameAt, fieldBytes}
 use Rattle.sheet.specs.declared.bodies.Leaf.{Leaf}
 
--- contents, 8 bytes: leaf count, derived record count, base record count, a zero byte, total length (32 bits)
+-- contents, 8 bytes: leaf count, a zero byte, and in 16 bits each the derived record count, the base record count and the total length
 abbrev pub contentsSize : ℕ
 contentsSize = 8
 
 abbrev pub leafCount : List ℕ → ℕ
 leafCount s = getD s 0 0
 
+abbrev pub zeroByte : List ℕ → ℕ
+zeroByte s = getD s 1 0
+
 abbrev pub derivedCount : List ℕ → ℕ
-derivedCount s = getD s 1 0
+derivedCount s = half s 2
 
 abbrev pub baseCount : List ℕ → ℕ
-baseCount s = getD s 2 0
-
-abbrev pub zeroByte : List ℕ → ℕ
-zeroByte s = getD s 3 0
+baseCount s = half s 4
 
 abbrev pub totalField : List ℕ → ℕ
-totalField s = word s 4
+totalField s = half s 6
 
 -- where the bodies start, and where the last one ends: the formula for the total length
 abbrev pub tablesAt : ℕ → ℕ
@@ -44,7 +44,7 @@ wholeLength s = totalOf (leafCount s) (derivedCount s) (baseCount s)
 
 -- the contents of a sheet of n leaves, d derived and b base records
 abbrev pub contentsBytes : (n d b : ℕ) → List ℕ
-contentsBytes n d b = n ∷ d ∷ b ∷ 0 ∷ wordBytes (totalOf n d b)
+contentsBytes n d b = n ∷ 0 ∷ (halfBytes d ++ (halfBytes b ++ halfBytes (totalOf n d b)))
 
 -- the bodies
 abbrev pub leavesPart : List ℕ → List ℕ

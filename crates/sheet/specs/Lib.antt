@@ -1,3 +1,4 @@
 pub mod Layout
 pub mod Refused
 pub mod Fits
+pub mod Printed

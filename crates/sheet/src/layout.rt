@@ -3,6 +3,7 @@ ghost use mathlib.Core.Path.{_≡_};
 ghost use mathlib.Core.Bool.{true};
 ghost use Prim.Native.Nat.{_*_, _^_, _≤_, _<_};
 ghost use lib.ListN.{length};
+ghost use Rattle.particle.specs.Record.{recordSize};
 ghost use Rattle.sheet.specs.Layout.{contentsSize, leafCount, derivedCount, baseCount, zeroByte, totalField, tablesAt, derivedAt, baseAt, totalOf, leavesPart, tablesPart, derivedPart, basePart};
 ghost use Rattle.sheet.specs.Refused.{inRange, countsOk, contentsOk};
 use intake::MAX_LEAVES;
@@ -27,34 +28,34 @@ pub fn leaf_count(s: &[u8]) -> u8
     s[0]
 }
 
-// How many records the derived tree has.
-fn derived_count(s: &[u8]) -> u8
-    requires { ⌜ contentsSize ≤ length (now s) ⌝ }
-    ensures { λ r. ⌜ r ≡ derivedCount (now (s .entry)) ⌝ }
-{
-    s[1]
-}
-
-// How many records the base tree has.
-fn base_count(s: &[u8]) -> u8
-    requires { ⌜ contentsSize ≤ length (now s) ⌝ }
-    ensures { λ r. ⌜ r ≡ baseCount (now (s .entry)) ⌝ }
-{
-    s[2]
-}
-
 fn zero_byte(s: &[u8]) -> u8
     requires { ⌜ contentsSize ≤ length (now s) ⌝ }
     ensures { λ r. ⌜ r ≡ zeroByte (now (s .entry)) ⌝ }
 {
-    s[3]
+    s[1]
+}
+
+// How many records the derived tree has.
+fn derived_count(s: &[u8]) -> u16
+    requires { ⌜ contentsSize ≤ length (now s) ⌝ }
+    ensures { λ r. ⌜ r ≡ derivedCount (now (s .entry)) ⌝ }
+{
+    particle::read_u16(s, 2)
+}
+
+// How many records the base tree has.
+fn base_count(s: &[u8]) -> u16
+    requires { ⌜ contentsSize ≤ length (now s) ⌝ }
+    ensures { λ r. ⌜ r ≡ baseCount (now (s .entry)) ⌝ }
+{
+    particle::read_u16(s, 4)
 }
 
 fn total_field(s: &[u8]) -> usize
     requires { ⌜ contentsSize ≤ length (now s) ⌝ }
     ensures { λ r. ⌜ r ≡ totalField (now (s .entry)) ⌝ }
 {
-    particle::read_u32(s, 4) as usize
+    particle::read_u16(s, 6) as usize
 }
 
 // Where the tables start.
@@ -77,18 +78,25 @@ fn derived_at(n: u8) -> usize
     tables_at(n) + 2 * square(n)
 }
 
-// Where the base tree starts.
-fn base_at(n: u8, d: u8) -> usize
-    ensures { λ r. ⌜ (r ≡ baseAt n d) × (r < 2 ^ 19) ⌝ }
+// How many bytes so many records take.
+fn records_len(records: u16) -> usize
+    ensures { λ r. ⌜ (r ≡ recordSize * records) × (r < 2 ^ 20) ⌝ }
 {
-    derived_at(n) + RECORD_SIZE * wide(d)
+    RECORD_SIZE * (records as usize)
+}
+
+// Where the base tree starts.
+fn base_at(n: u8, d: u16) -> usize
+    ensures { λ r. ⌜ (r ≡ baseAt n d) × (r < 2 ^ 21) ⌝ }
+{
+    derived_at(n) + records_len(d)
 }
 
 // Where the base tree ends: the total length.
-fn total_of(n: u8, d: u8, b: u8) -> usize
+fn total_of(n: u8, d: u16, b: u16) -> usize
     ensures { λ r. ⌜ r ≡ totalOf n d b ⌝ }
 {
-    base_at(n, d) + RECORD_SIZE * wide(b)
+    base_at(n, d) + records_len(b)
 }
 
 pub fn in_range(n: usize, least: usize, most: usize) -> bool

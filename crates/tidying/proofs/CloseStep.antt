@@ -11,6 +11,7 @@ use Rattle.particle.specs.Record.{recordSize, recordAt, recordBytes, rangeOf}
 use Rattle.particle.specs.Tree.{Head, choice, Items, none, item, Particle, single, pairOf, countI, headOf}
 use Rattle.particle.specs.Encode.{recordOf}
 use Rattle.particle.specs.Write.{overwrite}
+use Rattle.particle.proofs.Fields.{withCount, withPair}
 use Rattle.particle.proofs.Laws.{part-is}
 use Rattle.particle.proofs.Heads.{pair-record}
 use Rattle.particle.proofs.RoundTrip.{head-record}
@@ -38,14 +39,6 @@ closed-many g none n = refl
 closed-many g (item h k none) n = absurd (n refl)
 closed-many g (item h k (item h′ k′ r)) n = refl
 
--- g with another count
-abbrev counted : Record → ℕ → Record
-counted g n = record { kind = g .kind; leaf = g .leaf; count = n; unbounded = g .unbounded; min = g .min; max = g .max }
-
--- h with the pair of g
-abbrev paired : Record → Record → Record
-paired h g = record { kind = h .kind; leaf = h .leaf; count = h .count; unbounded = g .unbounded; min = g .min; max = g .max }
-
 -- an item that takes a pair is a choice
 is-choice : (g h : Head) → takesPair g h ≡ true → h ≡ choice (pairOf h)
 is-choice = takes-cases (λ (g h : Head). h ≡ choice (pairOf h)) (λ q p e. refl)
@@ -61,11 +54,11 @@ module _ {g : Record} {kept : Kept} {out : List ℕ} {at : ℕ} (s : KeptStand g
 
   -- the group's record is written before the items
   abbrev Headed : (after : List ℕ) → Type 0
-  Headed after = after ≡ overwrite at (recordBytes (counted g (kept .count))) out
+  Headed after = after ≡ overwrite at (recordBytes (withCount g (kept .count))) out
 
   over : {after : List ℕ} → Headed after → Laid before after at (kept .end) (item (headOf g) x none)
   over e =
-      let c : counted g (kept .count) ≡ recordOf (headOf g) (countI x) = ap (λ (q : Record). counted q (kept .count)) (sym (s .faithful)) ∙ ap (recordOf (headOf g)) n in
+      let c : withCount g (kept .count) ≡ recordOf (headOf g) (countI x) = ap (λ (q : Record). withCount q (kept .count)) (sym (s .faithful)) ∙ ap (recordOf (headOf g)) n in
       laid-write at l a (headOf g) (e ∙ ap (λ (q : Record). overwrite at (recordBytes q) out) c)
 
   pub many : {after : List ℕ} → (kept .count ≡ 1 → ⊥) → Headed after → Closed after (kept .end)
@@ -99,11 +92,11 @@ module _ {g : Record} {kept : Kept} {out : List ℕ} {at : ℕ} (s : KeptStand g
       p-is : takesPair (headOf g) (one .head) ≡ p
       p-is = ap (takesPair (headOf g)) (sym (ap headOf h-is ∙ head-record (one .head) (countI (one .items)))) ∙ sym ep
 
-      pub takes-pair : {middle after : List ℕ} → p ≡ true → middle ≡ overwrite (at + recordSize) (recordBytes (paired h g)) out → Removed middle after at (kept .end) → Closed after (kept .end - recordSize)
+      pub takes-pair : {middle after : List ℕ} → p ≡ true → middle ≡ overwrite (at + recordSize) (recordBytes (withPair h g)) out → Removed middle after at (kept .end) → Closed after (kept .end - recordSize)
       takes-pair {middle} t e r =
           let t′ : takesPair (headOf g) (one .head) ≡ true = p-is ∙ t in
           let h-is′ : h ≡ recordOf (choice (pairOf (one .head))) (countI (one .items)) = h-is ∙ ap (λ (q : Head). recordOf q (countI (one .items))) (is-choice (headOf g) (one .head) t′) in
-          let c : paired h g ≡ recordOf (choice (pairOf (headOf g))) (countI (one .items)) = ap (λ (q : Record). paired q g) h-is′ ∙ ap (λ (q : Record). paired (recordOf (choice (pairOf (one .head))) (countI (one .items))) q) (sym (s .faithful)) in
+          let c : withPair h g ≡ recordOf (choice (pairOf (headOf g))) (countI (one .items)) = ap (λ (q : Record). withPair q g) h-is′ ∙ ap (λ (q : Record). withPair (recordOf (choice (pairOf (one .head))) (countI (one .items))) q) (sym (s .faithful)) in
           let w : at + recordSize + recordSize ≤ length out = omega (arith, laid-long l alone, laid-within l alone) in
           let b : Laid out middle (at + recordSize) (kept .end) (item (choice (pairOf (headOf g))) (one .items) none) = laid-write (at + recordSize) w (laid-open l alone) (choice (pairOf (headOf g))) (e ∙ ap (λ (q : Record). overwrite (at + recordSize) (recordBytes q) out) c) in
           into (record { head = choice (pairOf (headOf g)); items = one .items }) (closed-is ∙ rw (u′, closed, t′, lone)) (laid-moved at l (laid-over (laid-before l alone) b) r)

@@ -133,10 +133,10 @@ fn close(g: Record, kept: Kept, out: &mut [u8], at: usize) -> usize
         let h = particle::record_at(&out[first..]);
         if takes_pair(g, h) {
             let choice = Record {
-                kind: h.kind,
-                leaf: h.leaf,
-                count: h.count,
-                ..g
+                unbounded: g.unbounded,
+                min: g.min,
+                max: g.max,
+                ..h
             };
             particle::write_record(out, first, choice);
             remove_record(out, at, end);
@@ -144,7 +144,7 @@ fn close(g: Record, kept: Kept, out: &mut [u8], at: usize) -> usize
         }
     }
     let group = Record {
-        count: kept.count as u8,
+        count: kept.count as u16,
         ..g
     };
     particle::write_record(out, at, group);

@@ -5,7 +5,7 @@ use Prim.Native.Nat.{ℕ, zero, suc, _+_, _≤_}
 use native.Mathlib.Omega.{arith}
 use lib.ListN.{drop}
 use lib.Seq.{getD-drop}
-use Rattle.particle.specs.Record.{word, recordAt, maxOf, rangeOf}
+use Rattle.particle.specs.Record.{atMin, atMax, word, recordAt, maxOf, rangeOf}
 use Rattle.particle.specs.Tree.{single, headOf, tree}
 use Rattle.particle.specs.Rows.{Row}
 use Rattle.particle.specs.Encode.{Bytes}
@@ -28,7 +28,7 @@ mark-32 (suc mark) n l = tt
 record-32 : (t : List ℕ) → Bytes t → (n : ℕ) → Leaf32 (headOf (recordAt (drop n t)))
 record-32 t b n =
     let r = recordAt (drop n t) in
-    let own : Pair32 (rangeOf r) = (word-32 t b n 4, mark-32 (r .unbounded) (r .max) (word-32 t b n 8)) in
+    let own : Pair32 (rangeOf r) = (word-32 t b n atMin, mark-32 (r .unbounded) (r .max) (word-32 t b n atMax)) in
     any-kind Leaf32 (r .leaf) (rangeOf r) own own tt tt tt (r .kind)
 
 pub leaves-32 : {t : List ℕ} → Row 1 t → Bytes t → EachHead Leaf32 (single (tree t))

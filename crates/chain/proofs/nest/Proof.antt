@@ -19,6 +19,7 @@ nest-spec =
     (tie.spec
     Inv-loop
     μ-loop
+    (λ c κs. search needs)
     (λ c. search nest-start)
     (λ c κs. search record-room)
     (λ c. omega arith)

@@ -4,6 +4,7 @@ use borrow.Author.Needs.{needs}
 use native.Mathlib.Omega.{arith}
 use mathlib.Core.Path.{sym, _∙_}
 use Rattle.particle.proofs.Laws.{some-bytes}
+use Rattle.particle.proofs.Runs.{run-few}
 use Rattle.rules.specs.Rule.{rule}
 use Rattle.restriction.proofs.Arms.{Sides, to-base, to-derived, to-members, to-both, arm, other-arm, element-sequence-arm, element-choice-arm, sequence-element-arm, choice-element-arm, sequences-arm, choices-arm, group-wildcard-arm, sequence-choice-arm}
 use Rattle.restriction.proofs.by_kinds.Reads as reads
@@ -71,13 +72,13 @@ by-kinds-closed t =
     (λ c κs. to-derived (sides t (search)))
     (λ c κs. to-members (sides t (search)))
     (λ c κs. to-both (sides t (search)))
-    (λ c κs. let w = to-both (sides t (search)) in (w .0, (w .1 .0, (omega arith, w .1 .1))))
-    (λ c κs. let w = to-both (sides t (search)) in (w .1 .0 .row, (w .1 .1 .row, omega arith)))
+    (λ c κs. let w = to-both (sides t (search)) in (w .0, (w .1 .0, (run-few (w .1 .0), w .1 .1))))
+    (λ c κs. let w = to-both (sides t (search)) in (w .1 .0 .row, (w .1 .1 .row, run-few (w .1 .1))))
     (λ c κs. to-derived (sides t (search)))
     (λ c κs. to-members (sides t (search)))
     (λ c κs. to-both (sides t (search)))
     (λ c κs. to-members (sides t (search)))
-    (λ c κs. let w = to-both (sides t (search)) in (w .1 .0 .row, (w .1 .1 .row, omega arith)))
+    (λ c κs. let w = to-both (sides t (search)) in (w .1 .0 .row, (w .1 .1 .row, run-few (w .1 .1))))
     -- the arms, in the match's order
     (λ c. c .element-restrict .ensures ∙ sym (arm (sides t (search)) 0 0 (omega arith) (search)))
     (λ c. c .element-wildcard .ensures ∙ sym (arm (sides t (search)) 0 1 (omega arith) (search)))
