@@ -8,7 +8,7 @@ use native.Mathlib.Numerals.{add-one}
 use native.Mathlib.Omega.{arith}
 use borrow.Author.Tests.{not-true, not-false}
 use lib.ListN.{length, take, drop, getD, set}
-use lib.Seq.{drop-cons, take-suc, set-split}
+use lib.Seq.{take-suc, set-split}
 use Rattle.particle.specs.declared.Occurs.{Occurs}
 use Rattle.particle.specs.declared.Record.{Record}
 use Rattle.particle.specs.Record.{recordAt, rangeOf}
@@ -21,11 +21,7 @@ use Rattle.verdicts.specs.declared.unordered.Taken.{Taken}
 use Rattle.verdicts.specs.declared.unordered.Taken.the-variants.{Nothing, Element}
 use Rattle.verdicts.specs.Taken.{untakenItems, hasName}
 use Rattle.verdicts.proofs.Rest.{Rest, begin, all-passed, later-is, row-here, next}
-use Rattle.verdicts.proofs.Flags.{untaken-none, Answers, passed-by, taken-first, untaken-past, untaken-required}
-
--- the flag at i and those after it
-flag-here : (fs : List Bool) (i : ℕ) → i < length fs → drop i fs ≡ getD fs i false ∷ drop (i + 1) fs
-flag-here fs i l = rw (add-one i) (drop-cons fs i false l)
+use Rattle.verdicts.proofs.Flags.{flag-here, untaken-none, Answers, passed-by, taken-first, untaken-past, untaken-required}
 
 -- the first bn trees of bs, with a flag for each
 module _ (bs : List ℕ) (bn : ℕ) (fs : List Bool) where

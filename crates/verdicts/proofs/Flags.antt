@@ -3,10 +3,12 @@ use mathlib.Core.Bool.{Bool, true, false, _&&_, not, true≢false}
 use mathlib.Core.List.{List, [], _∷_}
 use mathlib.Core.Logic.{_⊎_, inl, inr}
 use mathlib.Core.Path.{_≡_, refl, ap, sym, _∙_}
-use Prim.Native.Nat.{ℕ, zero, suc}
+use Prim.Native.Nat.{ℕ, zero, suc, _+_, _<_}
+use native.Mathlib.Numerals.{add-one}
 use borrow.Author.Tests.{eq-eqb, ne-eqb}
 use lib.Dec.{eqb}
-use lib.ListN.{replicate}
+use lib.ListN.{length, drop, getD, replicate}
+use lib.Seq.{drop-cons}
 use Rattle.particle.specs.declared.Occurs.{Occurs}
 use Rattle.particle.specs.declared.Record.{Record}
 use Rattle.particle.specs.Record.{rangeOf}
@@ -22,6 +24,10 @@ pub untaken-none : (fs : List Bool) → untakenItems fs none ≡ none
 unfolding untakenItems
 untaken-none [] = refl
 untaken-none (f ∷ fs) = refl
+
+-- the flag at i and those after it
+pub flag-here : (fs : List Bool) (i : ℕ) → i < length fs → drop i fs ≡ getD fs i false ∷ drop (i + 1) fs
+flag-here fs i l = rw (add-one i) (drop-cons fs i false l)
 
 -- at first nothing is taken
 pub none-taken : (n : ℕ) (x : Items) → untakenItems (replicate n false) x ≡ x

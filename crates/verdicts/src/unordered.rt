@@ -119,6 +119,55 @@ fn member_restrict(
     }
 }
 
+// The first dn trees of ds against the untaken ones of the first bn of bs. An item mostly takes a base item near the first that is
+// untaken, so each search begins there, at `free`; `low` items are before it.
+fn take_members(
+    ds: &[u8],
+    dn: usize,
+    bs: &[u8],
+    bn: usize,
+    matched: &mut [bool],
+    leaves: &[u8],
+    tables: &[u8],
+    n: u8,
+) -> Verdict
+    requires { ⌜ Row dn (now ds) ⌝ }
+    requires { ⌜ Row bn (now bs) ⌝ }
+    requires { ⌜ bn ≤ length (now matched) ⌝ }
+    ensures { λ r. ⌜ markOf r ≡ recurseUnordered (leavesOf (now (leaves .entry))) (tablesOf n (now (tables .entry))) (row dn (now (ds .entry))) (untakenItems (now (matched .entry)) (row bn (now (bs .entry)))) ⌝ }
+{
+    let mut seen = false;
+    let mut rest = ds;
+    let mut i: usize = 0;
+    let mut free = bs;
+    let mut low: usize = 0;
+    while i < dn {
+        while low < bn {
+            if !matched[low] {
+                break;
+            }
+            let k = particle::run_len(free);
+            free = &free[k..];
+            low += 1;
+        }
+        let head = particle::record_at(rest);
+        let v = member_restrict(head, free, bn - low, &mut matched[low..], leaves, tables, n);
+        match v {
+            Verdict::Ok => {}
+            Verdict::Unknown => {
+                seen = true;
+            }
+            Verdict::Violation(_) => {
+                return definite(v, seen);
+            }
+        }
+        let k = particle::run_len(rest);
+        rest = &rest[k..];
+        i += 1;
+    }
+    definite(untaken(free, bn - low, &matched[low..]), seen)
+}
+
 // The first dn trees of ds against the first bn of bs, as document 01 has it for all-groups.
 pub fn recurse_unordered(
     ds: &[u8],
@@ -135,24 +184,5 @@ pub fn recurse_unordered(
     ensures { λ r. ⌜ markOf r ≡ recurseUnordered (leavesOf (now (leaves .entry))) (tablesOf n (now (tables .entry))) (row dn (now (ds .entry))) (row bn (now (bs .entry))) ⌝ }
 {
     let mut matched = [false; MAX_RECORDS];
-    let mut seen = false;
-    let mut rest = ds;
-    let mut i: usize = 0;
-    while i < dn {
-        let head = particle::record_at(rest);
-        let v = member_restrict(head, bs, bn, &mut matched, leaves, tables, n);
-        match v {
-            Verdict::Ok => {}
-            Verdict::Unknown => {
-                seen = true;
-            }
-            Verdict::Violation(_) => {
-                return definite(v, seen);
-            }
-        }
-        let k = particle::run_len(rest);
-        rest = &rest[k..];
-        i += 1;
-    }
-    definite(untaken(bs, bn, &matched), seen)
+    take_members(ds, dn, bs, bn, &mut matched, leaves, tables, n)
 }
