@@ -1,4 +1,5 @@
 pub mod Answers
+pub mod Longer
 pub mod Shown
 pub mod OneAnswer
 pub mod FilledRows

@@ -2,6 +2,7 @@ pub mod Tests
 pub mod Contents
 pub mod ContentsTests
 pub mod ContentsBytes
+pub mod Length
 pub mod Loops
 pub mod Places
 pub mod Refusing
