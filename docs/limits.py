@@ -69,7 +69,7 @@ def numbers(given=(), crates=True):
         usual = value(formula, known) if formula else (found + [row["number"]])[0]
         known[name] = given.get(name, usual)
     for layout, fields in layouts().items():
-        letters = "".join(LETTERS[width] for _, _, width in fields)
+        letters = "".join(LETTERS.get(width, "%ds" % width) for _, _, width in fields)
         known[layout + "_format"] = given.get(layout + "_format", "<" + letters)
     return known
 

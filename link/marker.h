@@ -38,7 +38,7 @@
  * archive (link/stack) and an argument on how deep calls nest (README, 'Memory
  * and time'); tests with deep trees run on a stack of that size and a page more.
  * No contract bounds the time either; the longest marking that we know takes
- * some 20 milliseconds (docs/BENCHMARK.md, 'worst, own pairs').
+ * some 270 milliseconds (docs/BENCHMARK.md, 'worst, own pairs, 1000 records').
  */
 #ifndef MARKER_H
 #define MARKER_H
@@ -59,7 +59,7 @@ extern "C" {
 
 #define MARKER_MOST_LEVELS 17    /* the levels of a chain, at most */
 
-#define MARKER_MOST_STACK 65536  /* bytes of stack that a call takes, at most; not proved */
+#define MARKER_MOST_STACK 57344  /* bytes of stack that a call takes, at most; not proved */
 
 /* What marker_mark answers besides a reason. */
 #define MARKER_PASSES UINT32_C(0)

@@ -55,7 +55,7 @@ pub const MOST_LEVELS: usize = 17;
 
 /// A call takes at most so many bytes of stack, for whoever sizes a thread's.
 /// It is counted and tested (`link/stack`, `link/test_stack.c`), not proved.
-pub const MOST_STACK: usize = 65536;
+pub const MOST_STACK: usize = 57344;
 
 // Added to the number of a sheet's refusal.
 const REFUSED: u32 = 1000;

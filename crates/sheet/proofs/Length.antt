@@ -22,8 +22,7 @@ largest-is = refl
 
 pub contents-length : (s : List ℕ) → contentsOk s ≡ true → (totalOf 1 1 1 ≤ length s) × (length s ≤ totalOf maxLeaves maxRecords maxRecords)
 contents-length s e =
-    let c = contents s e in
-    (
+    let c = contents s e in (
       omega (arith, c .whole, c .leaves .low, c .derived .low, c .base .low, mul-le-mul (c .leaves .low) (c .leaves .low)),
       omega (arith, c .whole, c .leaves .high, c .derived .high, c .base .high, mul-le-mul (c .leaves .high) (c .leaves .high)),
     )
