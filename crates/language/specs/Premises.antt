@@ -9,9 +9,13 @@ abbrev pub Every : (Head → Items → Type 0) → Items → Type 0
 Every P none = Unit {0}
 Every P (item h k r) = (P h k × Every P k) × Every P r
 
+-- P of each record below a tree's root
+abbrev pub BelowRoot : (Head → Items → Type 0) → Particle → Type 0
+BelowRoot P x = Every P (x .items)
+
 -- P of each record of a tree, root or below
 abbrev pub Throughout : (Head → Items → Type 0) → Particle → Type 0
-Throughout P x = P (x .head) (x .items) × Every P (x .items)
+Throughout P x = P (x .head) (x .items) × BelowRoot P x
 
 -- no zero maximum: no record whose maximum is bounded and 0
 abbrev pub NoZeroMaximum : Head → Items → Type 0

@@ -12,7 +12,7 @@ use borrow.Author.Tests.{ltb-true, leb-true, eqb-true, ne-eqb}
 use Rattle.particle.specs.declared.Occurs.{Occurs}
 use Rattle.particle.specs.declared.Record.{Record}
 use Rattle.particle.specs.Record.{maxOf, rangeOf}
-use Rattle.particle.specs.Tree.{pairOf, headFrom, headOf, tree}
+use Rattle.particle.specs.Tree.{Particle, pairOf, headFrom, headOf, tree}
 use Rattle.particle.proofs.Heads.{pair-record}
 use Rattle.particle.proofs.Tests.{and-true}
 use Rattle.language.specs.Language.{AtMost}
@@ -29,7 +29,7 @@ use Rattle.sheet.specs.Refused as sheet
 use Rattle.sheet.specs.Refused.{every, kindsOf, knownIn}
 use Rattle.sheet.proofs.AcceptedSheet.{Passed, passed, leaves-count}
 use Rattle.marking.specs.Answer.{sheetLeaves, sheetTables, derivedTree, baseTree, markOfSheet, markSheet}
-use Rattle.marking.specs.Demand.{Plain, SheetPassIncludes}
+use Rattle.marking.specs.Demand.{Plain, NoZeroMaxima, SheetPassIncludes}
 use Rattle.marking.proofs.Answers.{answer-gives}
 use Rattle.marking.proofs.EachRecord.{accepted-throughout}
 
@@ -94,14 +94,20 @@ module _ {s : List ℕ} (a : Passed s) where
   supposed t e p = record {
     leavesKnown = accepted-throughout (knownIn s) (LeafKnown (sheetLeaves s)) record-known t e;
     ordered = accepted-throughout (knownIn s) (λ h. AtMost (pairOf h .min) (pairOf h .max)) record-ordered t e;
-    noZeroMaximum = p .noZeroMaximum;
     noEmptyChoice = p .noEmptyChoice;
+    noZeroBelow = p .noZeroBelow;
   }
 
-pub sheet-pass-includes : SheetPassIncludes
+pub sheet-pass-includes : SheetPassIncludes Plain
 unfolding markSheet markOfSheet
 sheet-pass-includes s e pd pb derived base among w x =
     let given = answer-gives _ (markOfSheet s) e in
     let a = passed s (given .0) in
     passes-includes (sheetLeaves s) (sheetTables s) derived base among (derivedTree s) (baseTree s)
     (supposed a (derivedPart s) (a .derived) pd) (supposed a (basePart s) (a .base) pb) (given .1) w x
+
+-- under document 01's premise, which is more
+pub sheet-pass-includes-01 : SheetPassIncludes NoZeroMaxima
+sheet-pass-includes-01 s e pd pb =
+    let plain : (x : Particle) → NoZeroMaxima x → Plain x = λ x p. record { noEmptyChoice = p .noEmptyChoice; noZeroBelow = p .noZeroMaximum .1 } in
+    sheet-pass-includes s e (plain (derivedTree s) pd) (plain (baseTree s) pb)

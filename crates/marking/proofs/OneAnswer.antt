@@ -9,7 +9,7 @@ use Rattle.rules.specs.Verdicts.{Mark, passes, undecided, fails}
 use Rattle.rules.specs.Shown.{canShow}
 use Rattle.intake.proofs.OneRefusal.{numbered, refusalOf, refusal-back}
 use Rattle.verdicts.specs.declared.Reason.{Reason}
-use Rattle.verdicts.specs.declared.Reason.the-variants.{ElementWildcardRange, WildcardElement, WildcardRange, WeakerProcessContents, SequenceRange, ChoiceRange, AllRange, NotInAll, MissingFromAll, SequenceRequired, NoAlternative, ChoiceRequired, TotalRange, WildcardGroup, GroupKind, SequenceTotal, MemberAlternative, SequenceAllRange, MemberNotElement, NotAllowed, RequiredMissing, MinBelow, MaxUnbounded, MaxAbove, Set}
+use Rattle.verdicts.specs.declared.Reason.the-variants.{ElementWildcardRange, WildcardElement, WildcardRange, WeakerProcessContents, SequenceRange, ChoiceRange, AllRange, NotInAll, MissingFromAll, SequenceRequired, NoAlternative, ChoiceRequired, TotalRange, WildcardGroup, GroupKind, SequenceTotal, MemberAlternative, SequenceAllRange, MemberNotElement, NotAllowed, RequiredMissing, MinBelow, MaxUnbounded, MaxAbove, BaseMayNotOccur, Set}
 use Rattle.verdicts.specs.Reasons.{reasonNumber}
 use Rattle.entries.specs.Answer.{Answer, gives, refused}
 use Rattle.marking.specs.declared.MarkAnswer.{MarkAnswer}
@@ -24,6 +24,7 @@ ruleReasons =
     ∷ AllRange ∷ NotInAll ∷ MissingFromAll ∷ SequenceRequired ∷ NoAlternative ∷ ChoiceRequired
     ∷ TotalRange ∷ WildcardGroup ∷ GroupKind ∷ SequenceTotal ∷ MemberAlternative ∷ SequenceAllRange
     ∷ MemberNotElement ∷ NotAllowed ∷ RequiredMissing ∷ MinBelow ∷ MaxUnbounded ∷ MaxAbove
+    ∷ BaseMayNotOccur
     ∷ []
 
 abbrev reasonOf : ℕ → Reason
@@ -55,6 +56,7 @@ reason-back RequiredMissing e = refl
 reason-back MinBelow e = refl
 reason-back MaxUnbounded e = refl
 reason-back MaxAbove e = refl
+reason-back BaseMayNotOccur e = refl
 reason-back (Set n) e =
     let p = paper-range n e in
     rw (le-leb 140 n (p .0), le-leb n 152 (p .1), le-leb 140 n (p .0))

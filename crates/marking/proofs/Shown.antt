@@ -1,22 +1,24 @@
 -- The reasons that Mark a sheet answers: those of the rules, since the verdicts of an accepted sheet are ok, undecided or 140 to 152. Assumes nothing.
 use mathlib.Core.Bool.{Bool, true, false, cond, _&&_, false≢true}
 use mathlib.Core.List.{List, [], _∷_}
-use mathlib.Core.Path.{_≡_, refl, sym}
+use mathlib.Core.Path.{_≡_, refl, sym, _∙_}
 use Prim.Native.Nat.{ℕ, zero, suc, _+_, _*_, _≤_}
 use native.Mathlib.Omega.{arith}
 use lib.Dec.{leb}
 use lib.ListN.{getD}
 use borrow.Author.Tests.{leb-true, lt-leb}
 use Rattle.particle.proofs.Tests.{and-true}
+use Rattle.rules.specs.Verdicts.{fails}
 use Rattle.rules.specs.Shown.{canShow, OfPaper, PaperVerdicts}
 use Rattle.rules.proofs.Shown.{reasons-shown}
 use Rattle.verdicts.specs.Paper.{paperReason, verdictOf}
+use Rattle.entries.specs.Answer.{gives}
 use Rattle.sheet.specs.Layout.{leafCount, tablesPart}
 use Rattle.sheet.specs.Refused.{every, verdictOk, verdictsOk, sheetRefusal}
 use Rattle.sheet.proofs.AcceptedSheet.{Passed, passed}
 use Rattle.marking.specs.declared.MarkAnswer.{MarkAnswer}
 use Rattle.marking.specs.Answer.{sheetLeaves, sheetTables, derivedTree, baseTree, markOfSheet, markSheet, markMeaning, SetInRange}
-use Rattle.marking.specs.Shown.{SheetReasonsShown}
+use Rattle.marking.specs.Shown.{SheetReasonsShown, SecondReadingHidden}
 use Rattle.marking.proofs.Answers.{answer-gives}
 
 -- a verdict that is in order
@@ -46,6 +48,12 @@ unfolding markSheet markOfSheet
 sheet-reasons-shown s r e =
     let given = answer-gives (sheetRefusal s) (markOfSheet s) e in
     reasons-shown (sheetLeaves s) (sheetTables s) (paper-verdicts (passed s (given .0))) (derivedTree s) (baseTree s) r (given .1)
+
+-- none of the four is among them
+pub second-reading-hidden : SecondReadingHidden
+second-reading-hidden s =
+    let hidden : (r : ℕ) → canShow r ≡ false → ¬ (markSheet s ≡ gives (fails r)) = λ r h e. false≢true (sym h ∙ sheet-reasons-shown s r e) in
+    (hidden 110 refl, hidden 111 refl, hidden 112 refl, hidden 125 refl)
 
 -- The values of `Set` ----------------------------------------------------------------
 

@@ -49,6 +49,6 @@ markMeaning Undecided = gives undecided
 markMeaning (Fails r) = gives (fails (reasonNumber r))
 markMeaning (Refused r) = refused (refusalNumber r)
 
--- The values that `Set` has in an answer: '140..=152 a reason that the paper sets'. So no reason of the rules, 101 to 124, is answered as `Set`.
+-- The values that `Set` has in an answer: '140..=152 a reason that the paper sets'. So no reason of the rules, 101 to 125, is answered as `Set`.
 abbrev pub SetInRange : MarkAnswer → Type 0
 SetInRange r = (n : ℕ) → r ≡ Fails (Set n) → (140 ≤ n) × (n ≤ 152)

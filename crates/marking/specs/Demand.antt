@@ -7,7 +7,7 @@ use Prim.Native.Nat.{ℕ, _≤_, _<_}
 use lib.ListN.{length, getD}
 use Rattle.particle.specs.Tree.{Particle}
 use Rattle.language.specs.Language.{Names, Allows}
-use Rattle.language.specs.Premises.{Throughout, NoZeroMaximum, NoEmptyChoice}
+use Rattle.language.specs.Premises.{BelowRoot, Throughout, NoZeroMaximum, NoEmptyChoice}
 use Rattle.rules.specs.Verdicts.{Mark, passes, undecided}
 use Rattle.rules.specs.Demand.{NamesAmong}
 use Rattle.entries.specs.Answer.{gives}
@@ -38,14 +38,19 @@ FillingKeepsSheetMarks = (s s′ : List ℕ) → FilledSheet s s′ → (m : Mar
 
 -- Second half: what a pass means --------------------------------------------------------
 
--- What demand 3 supposes of each of the two trees, as handed in: no record, root or below, has a zero maximum, and no choice is empty.
+-- What document 02 §5 supposes of each of the two trees, as handed in: 'no empty choice and no zero maximum below a root; the roots may now have it'.
 pub record Plain (x : Particle) : Type 0 where
-  pub noZeroMaximum : Throughout NoZeroMaximum x
   pub noEmptyChoice : Throughout NoEmptyChoice x
+  pub noZeroBelow : BelowRoot NoZeroMaximum x
 
--- Where a sheet passes, every sequence of names that its derived tree allows is allowed by its base tree, whatever sets of names its leaves have as derived and as base,
+-- What document 01 supposes of them, which is more: no record, root or below, has a zero maximum, and no choice is empty.
+pub record NoZeroMaxima (x : Particle) : Type 0 where
+  pub noEmptyChoice : Throughout NoEmptyChoice x
+  pub noZeroMaximum : Throughout NoZeroMaximum x
+
+-- Of trees as supposed: where a sheet passes, every sequence of names that its derived tree allows is allowed by its base tree, whatever sets of names its leaves have as derived and as base,
 -- if for each two leaves whose verdicts are all ok the derived leaf's names are among the base leaf's.
-abbrev pub SheetPassIncludes : Type 1
-SheetPassIncludes = (s : List ℕ) → markSheet s ≡ gives passes → Plain (derivedTree s) → Plain (baseTree s)
+abbrev pub SheetPassIncludes : (supposed : Particle → Type 0) → Type 1
+SheetPassIncludes supposed = (s : List ℕ) → markSheet s ≡ gives passes → supposed (derivedTree s) → supposed (baseTree s)
     → (derived base : Names) → NamesAmong (sheetLeaves s) (sheetTables s) derived base
     → (w : List ℕ) → Allows derived (derivedTree s) w → Allows base (baseTree s) w

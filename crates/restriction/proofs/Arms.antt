@@ -4,7 +4,6 @@ use mathlib.Core.List.{List}
 use mathlib.Core.Path.{_≡_, refl, sym, ap, _∙_}
 use Prim.Native.Nat.{ℕ, _+_, _*_, _≤_, _<_}
 use native.Mathlib.Omega.{arith}
-use lib.Dec.{leb}
 use lib.ListN.{length}
 use Rattle.particle.specs.declared.Occurs.{Occurs}
 use Rattle.particle.specs.declared.Record.{Record}
@@ -21,7 +20,7 @@ use Rattle.totals.specs.Total.{total, totalOk}
 use Rattle.rules.specs.Verdicts.{Mark, fails, Leaves, Tables}
 use Rattle.rules.specs.Combine.{_orFails_, _andThen_, combineReadings}
 use Rattle.rules.specs.Walk.{_⟦_⟧, Judge, recurseOrdered, alternatives, eachMember}
-use Rattle.rules.specs.Rule.{anyNumber, timesCount, rule}
+use Rattle.rules.specs.Rule.{anyNumber, timesCount, secondReading, rule}
 use Rattle.rules.proofs.Unfolds.{mark-unfolds}
 use Rattle.verdicts.specs.declared.Verdict.{Verdict}
 use Rattle.verdicts.specs.Paper.{leavesOf, tablesOf}
@@ -68,8 +67,12 @@ pub record Sides (leaves tables : List ℕ) (n : ℕ) (once any : Bool) (d b : L
 module _ {leaves tables : List ℕ} {n : ℕ} {once any : Bool} {d b : List ℕ} {dr br : Record} {p q : Occurs} {ds bs : List ℕ} {dk bk m : ℕ}
     (S : Sides leaves tables n once any d b dr br p q ds bs dk bk m) where
   -- what the calls ask: less weight, and rows of trees
-  pub to-base : (weight 4 d bs < m) × (Run 1 d × Run (br .count) bs)
-  to-base = (omega (arith, S .weighs, side-shorter (S .base)), (S .derived .whole, side-items (S .base)))
+  pub to-readings : (j : ℕ) → j < 5 → 5 * dk + bk ≡ j → (weight 4 d bs < m) × (Run 1 d × (Run (br .count) bs × (once ≡ true → p ≡ exactly 1)))
+  to-readings j low key = (omega (arith, S .weighs, side-shorter (S .base)), (S .derived .whole, (side-items (S .base), once-pair (omega arith))))
+    where
+      -- an element that counts once
+      once-pair : dk ≡ 0 → once ≡ true → p ≡ exactly 1
+      once-pair k o = S .derived .pair ∙ rw (own-head (S .derived), k, o)
 
   pub to-derived : (weight 3 ds b < m) × (Run (dr .count) ds × Run 1 b)
   to-derived = (omega (arith, S .weighs, side-shorter (S .derived)), (side-items (S .derived), S .base .whole))
@@ -140,13 +143,13 @@ module _ {leaves tables : List ℕ} {n : ℕ} {once any : Bool} {d b : List ℕ}
     alone-tree : asOnce once (tree d) ≡ element (dr .leaf) p ⟦ di ⟧
     alone-tree = rw (side-tree (S .derived), derived-head, k)
 
-  pub element-sequence-arm : 5 * dk + bk ≡ 2 → theMark ≡ combineReadings (rangeOk p q orFails 105 andThen recurseOrdered J false (eachOnce true (row 1 d)) bi) (leb (q .min) 1 orFails 110 andThen recurseOrdered J false (eachOnce once (row 1 d)) bi)
+  pub element-sequence-arm : 5 * dk + bk ≡ 2 → theMark ≡ combineReadings (rangeOk p q orFails 105 andThen recurseOrdered J false (eachOnce true (row 1 d)) bi) (secondReading q 110 (recurseOrdered J false (eachOnce once (row 1 d)) bi))
   unfolding rule
   element-sequence-arm key =
       let k = derived-kind 0 2 (omega arith) key in
       arm 0 2 (omega arith) key ∙ rw (unwrap (sequence p) (sequence q) (item (element (dr .leaf) (exactly 1)) di none) bi, alone k, alone-once k)
 
-  pub element-choice-arm : 5 * dk + bk ≡ 3 → theMark ≡ combineReadings (rangeOk p q orFails 106 andThen recurseOrdered J true (eachOnce true (row 1 d)) bi) (leb (q .min) 1 orFails 112 andThen alternatives J 111 (asOnce once (tree d)) bi)
+  pub element-choice-arm : 5 * dk + bk ≡ 3 → theMark ≡ combineReadings (rangeOk p q orFails 106 andThen recurseOrdered J true (eachOnce true (row 1 d)) bi) (secondReading q 112 (alternatives J 111 (asOnce once (tree d)) bi))
   unfolding rule
   element-choice-arm key =
       let k = derived-kind 0 3 (omega arith) key in

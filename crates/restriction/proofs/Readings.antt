@@ -1,12 +1,15 @@
--- The two readings of an element that counts once: both ask the same of the base's items. Assumes nothing.
-use mathlib.Core.Bool.{Bool, true, false}
+-- The two readings of an element that counts once: both ask the same of the base's pair and of its items. Assumes nothing.
+use mathlib.Core.Bool.{Bool, true, false, not, _&&_}
 use mathlib.Core.List.{List}
 use mathlib.Core.Path.{_≡_, refl, ap, sym, _∙_}
-use Prim.Native.Nat.{ℕ, _≤_, _<_}
-use lib.Dec.{leb}
-use borrow.Author.Tests.{le-leb, lt-leb}
+use Prim.Native.Nat.{ℕ, zero, suc, _≤_, _<_}
+use native.Mathlib.Omega.{arith}
+use lib.Dec.{leb, eqb}
+use borrow.Author.Tests.{le-leb, lt-leb, ne-eqb}
+use Rattle.particle.specs.declared.MaxOccurs.{MaxOccurs}
+use Rattle.particle.specs.declared.MaxOccurs.the-variants.{Bounded, Unbounded}
 use Rattle.particle.specs.declared.Occurs.{Occurs}
-use Rattle.particle.specs.Occurs.{rangeOk}
+use Rattle.particle.specs.Occurs.{maxOk, rangeOk, exactly, isZero}
 use Rattle.particle.specs.Tree.{Items, none, item, Particle, tree}
 use Rattle.particle.specs.Rows.{row}
 use Rattle.particle.specs.Runs.{Run}
@@ -14,9 +17,11 @@ use Rattle.particle.proofs.Laws.{row-one}
 use Rattle.rules.specs.Verdicts.{Mark, passes, undecided, fails}
 use Rattle.rules.specs.Combine.{_orFails_, _andThen_, _orElse_, combineReadings}
 use Rattle.rules.specs.Walk.{_⟦_⟧, Judge, recurseOrdered, alternatives}
+use Rattle.rules.specs.Rule.{secondReading}
 use Rattle.verdicts.specs.declared.Verdict.{Verdict}
 use Rattle.verdicts.specs.declared.Verdict.the-variants.{Ok}
 use Rattle.verdicts.specs.Reasons.{markOf}
+use Rattle.verdicts.proofs.Marks.{NotOk, ended, after-pass}
 use Rattle.restriction.specs.Views.{asOnce, eachOnce}
 use Rattle.restriction.proofs.Parts.{cons}
 
@@ -37,11 +42,6 @@ module _ (J : Judge) (x : Particle) where
       go passes n n′ e = refl
       go undecided n n′ e = ap (λ (z : Mark). undecided orElse z) e
       go (fails q) n n′ e = e
-
-  settled : (n : Mark) (r : ℕ) → combineReadings (fails r) (undecided orElse n) ≡ undecided orElse n
-  settled passes r = refl
-  settled undecided r = refl
-  settled (fails q) r = refl
 
   open-read : (n : Mark) → combineReadings undecided (undecided orElse n) ≡ undecided orElse n
   open-read passes = refl
@@ -65,55 +65,89 @@ module _ (J : Judge) (x : Particle) where
       go undecided e = open-read (alternatives J s x b) ∙ alike s 120 b
       go (fails r) e = e
 
-  -- a range that isn't within the base's, and the alternatives
-  pub range-and-alternatives : (r s : ℕ) (b : Items) → combineReadings (fails r) (alternatives J s x b) ≡ alternatives J r x b
-  unfolding alternatives
-  range-and-alternatives r s none = refl
-  range-and-alternatives r s (item h k b) = go (J x (h ⟦ k ⟧)) (range-and-alternatives r s b)
-    where
-      go : (m : Mark) → combineReadings (fails r) (alternatives J s x b) ≡ alternatives J r x b → combineReadings (fails r) (m orElse alternatives J s x b) ≡ m orElse alternatives J r x b
-      go passes e = refl
-      go undecided e = settled (alternatives J s x b) r ∙ alike s r b
-      go (fails q) e = e
-
 once-alone : {d : List ℕ} → Run 1 d → eachOnce true (row 1 d) ≡ cons (asOnce true (tree d)) none
 unfolding eachOnce
 once-alone w = ap (eachOnce true) (row-one (w .row))
 
--- the same as the rule has it, where the element counts once and the base's minimum is at most 1
-module _ (J : Judge) (b : Items) (p q : Occurs) {d : List ℕ} {once : Bool} (w : Run 1 d) (o : once ≡ true) (low : q .min ≤ 1) where
+-- (1,1) is within a pair just where the second reading finds nothing in the pair
+one-within : (q : Occurs) → rangeOk (exactly 1) q ≡ (leb (q .min) 1 && not (isZero (q .max)))
+one-within q = ap (λ (c : Bool). leb (q .min) 1 && c) (go (q .max))
+  where
+    go : (m : MaxOccurs) → maxOk (Bounded 1) m ≡ not (isZero m)
+    go (Bounded zero) = refl
+    go (Bounded (suc m)) = le-leb 1 (suc m) (omega arith) ∙ sym (ap not (ne-eqb (suc m) 0 (λ e. omega arith)))
+    go Unbounded = refl
+
+-- So an element that counts once has one range for both readings.
+pub once-readings : (q : Occurs) (r k : ℕ) (m n : Mark) → combineReadings (rangeOk (exactly 1) q orFails r andThen m) (secondReading q k n) ≡ rangeOk (exactly 1) q orFails r andThen combineReadings m n
+once-readings q r k m n = rw (one-within q) (go (leb (q .min) 1) (not (isZero (q .max))))
+  where
+    go : (low some : Bool) → combineReadings ((low && some) orFails r andThen m) (some orFails 125 andThen low orFails k andThen n) ≡ (low && some) orFails r andThen combineReadings m n
+    go true true = refl
+    go true false = refl
+    go false true = refl
+    go false false = refl
+
+-- the same as the rule has it, where the element counts once
+module _ (J : Judge) (b : Items) (p q : Occurs) {d : List ℕ} {once : Bool} (w : Run 1 d) (o : once ≡ true) (one : once ≡ true → p ≡ exactly 1) where
   abbrev Sequence : Mark
   Sequence = rangeOk p q orFails 105 andThen recurseOrdered J false (eachOnce true (row 1 d)) b
 
   abbrev Choice : Mark
-  Choice = combineReadings (rangeOk p q orFails 106 andThen recurseOrdered J true (eachOnce true (row 1 d)) b) (leb (q .min) 1 orFails 112 andThen alternatives J 111 (asOnce once (tree d)) b)
+  Choice = combineReadings (rangeOk p q orFails 106 andThen recurseOrdered J true (eachOnce true (row 1 d)) b) (secondReading q 112 (alternatives J 111 (asOnce once (tree d)) b))
 
-  pub once-sequence : rangeOk p q ≡ true → Sequence ≡ combineReadings Sequence (leb (q .min) 1 orFails 110 andThen recurseOrdered J false (eachOnce once (row 1 d)) b)
-  once-sequence e = rw (e, o, le-leb (q .min) 1 low) (sym (read-twice (recurseOrdered J false (eachOnce true (row 1 d)) b)))
+  pub once-sequence : Sequence ≡ combineReadings Sequence (secondReading q 110 (recurseOrdered J false (eachOnce once (row 1 d)) b))
+  once-sequence =
+      let walk = recurseOrdered J false (eachOnce true (row 1 d)) b in
+      rw (one o, o) (sym (once-readings q 105 110 walk walk ∙ ap (λ (m : Mark). rangeOk (exactly 1) q orFails 105 andThen m) (read-twice walk)))
 
-  pub once-choice : rangeOk p q ≡ true → alternatives J 120 (asOnce once (tree d)) b ≡ Choice
-  once-choice e = rw (e, o, le-leb (q .min) 1 low, once-alone w) (sym (walk-and-alternatives J (asOnce true (tree d)) 111 b))
-
-  pub once-choice-out : rangeOk p q ≡ false → alternatives J 106 (asOnce once (tree d)) b ≡ Choice
-  once-choice-out e = rw (e, o, le-leb (q .min) 1 low) (sym (range-and-alternatives J (asOnce true (tree d)) 106 111 b))
+  pub once-choice : Choice ≡ rangeOk p q orFails 106 andThen alternatives J 120 (asOnce once (tree d)) b
+  once-choice =
+      let walk = recurseOrdered J true (eachOnce true (row 1 d)) b in
+      let any = alternatives J 111 (asOnce true (tree d)) b in
+      rw (one o, o) (once-readings q 106 112 walk any ∙ ap (λ (m : Mark). rangeOk (exactly 1) q orFails 106 andThen m) (rw (once-alone w) (walk-and-alternatives J (asOnce true (tree d)) 111 b)))
 
   -- m is what the code answers, `ok` what it finds of the range
-  pub once-sequence-reads : {m : Mark} {ok : Bool} → m ≡ Sequence → ok ≡ rangeOk p q → ok ≡ true → m ≡ combineReadings Sequence (leb (q .min) 1 orFails 110 andThen recurseOrdered J false (eachOnce once (row 1 d)) b)
-  once-sequence-reads a e y = a ∙ once-sequence (sym e ∙ y)
+  pub once-sequence-reads : {m : Mark} → m ≡ Sequence → m ≡ combineReadings Sequence (secondReading q 110 (recurseOrdered J false (eachOnce once (row 1 d)) b))
+  once-sequence-reads a = a ∙ once-sequence
 
   pub once-choice-reads : {m : Mark} {ok : Bool} → m ≡ alternatives J 120 (asOnce once (tree d)) b → ok ≡ rangeOk p q → ok ≡ true → m ≡ Choice
-  once-choice-reads a e y = a ∙ once-choice (sym e ∙ y)
+  once-choice-reads a e y = a ∙ sym (once-choice ∙ rw (← e, y))
 
-  pub once-choice-out-reads : {m : Mark} {ok : Bool} → m ≡ alternatives J 106 (asOnce once (tree d)) b → ok ≡ rangeOk p q → ok ≡ false → m ≡ Choice
-  once-choice-out-reads a e n = a ∙ once-choice-out (sym e ∙ n)
+  pub once-choice-out : {ok : Bool} → ok ≡ rangeOk p q → ok ≡ false → fails 106 ≡ Choice
+  once-choice-out e n = sym (once-choice ∙ rw (← e, n))
 
--- two readings as the code takes them: a is what the first gave, m what both come to, n the base's minimum
+-- two readings as the code takes them: a is what the first gave, v what the base's own pair says, m what both come to
 pub first-passes : {v : Verdict} {first : Mark} (second : Mark) → markOf v ≡ first → v ≡ Ok → passes ≡ combineReadings first second
 first-passes second a q = rw (← a, q)
 
-module _ {m a first : Mark} (n k : ℕ) where
-  pub second-fails : (rest : Mark) → m ≡ combineReadings a (fails k) → a ≡ first → 1 < n → m ≡ combineReadings first (leb n 1 orFails k andThen rest)
-  second-fails rest e f l = rw (← f, lt-leb n 1 l) e
+-- the second reading: what the base's own pair says, and then its items
+second-parts : (q : Occurs) (k : ℕ) (items : Mark) → secondReading q k passes andThen items ≡ secondReading q k items
+second-parts q k items = go (leb (q .min) 1) (not (isZero (q .max)))
+  where
+    go : (low some : Bool) → (some orFails 125 andThen low orFails k andThen passes) andThen items ≡ some orFails 125 andThen low orFails k andThen items
+    go true true = refl
+    go true false = refl
+    go false true = refl
+    go false false = refl
 
-  pub second-reads : {b rest : Mark} → m ≡ combineReadings a b → a ≡ first → b ≡ rest → n ≤ 1 → m ≡ combineReadings first (leb n 1 orFails k andThen rest)
-  second-reads e f g l = rw (← f, le-leb n 1 l, ← g) e
+module _ {m a first : Mark} (q : Occurs) (k : ℕ) (v : Verdict) (f : a ≡ first) (g : markOf v ≡ secondReading q k passes) where
+  pub second-fails : (rest : Mark) → m ≡ combineReadings a (markOf v) → NotOk v → m ≡ combineReadings first (secondReading q k rest)
+  second-fails rest e t = e ∙ rw f (ap (combineReadings first) (ended rest v g t ∙ second-parts q k rest))
+
+  pub second-reads : {b rest : Mark} → m ≡ combineReadings a b → b ≡ rest → v ≡ Ok → m ≡ combineReadings first (secondReading q k rest)
+  second-reads {b} {rest} e h o = e ∙ rw f (ap (combineReadings first) (after-pass rest g o h ∙ second-parts q k rest))
+
+-- The base's own pair, as the code asks it: z is what it finds of the maximum.
+pub bounded-zero : {m : MaxOccurs} {n : ℕ} → m ≡ Bounded n → eqb n 0 ≡ isZero m
+bounded-zero e = rw e
+
+module _ (q : Occurs) (k : ℕ) {z : Bool} (e : z ≡ isZero (q .max)) where
+  pub pair-zero : z ≡ true → fails 125 ≡ secondReading q k passes
+  pair-zero t = rw (← e, t)
+
+  pub pair-required : z ≡ false → 1 < q .min → fails k ≡ secondReading q k passes
+  pair-required n l = rw (← e, n, lt-leb (q .min) 1 l)
+
+  pub pair-once : z ≡ false → q .min ≤ 1 → passes ≡ secondReading q k passes
+  pair-once n l = rw (← e, n, le-leb (q .min) 1 l)

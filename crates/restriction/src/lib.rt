@@ -7,8 +7,7 @@ mod rows;
 ghost use mathlib.Core.Path.{_≡_};
 ghost use mathlib.Core.Bool.{true, false};
 ghost use Prim.Native.Nat.{_≤_};
-ghost use lib.Dec.{leb};
-ghost use Rattle.particle.specs.Occurs.{rangeOk};
+ghost use Rattle.particle.specs.Occurs.{rangeOk, exactly};
 ghost use Rattle.particle.specs.Record.{maxRecords};
 ghost use Rattle.particle.specs.Tree.{tree};
 ghost use Rattle.particle.specs.Rows.{row};
@@ -16,9 +15,10 @@ ghost use Rattle.particle.specs.Runs.{Run};
 ghost use Rattle.totals.specs.Total.{total, totalOk};
 ghost use Rattle.rules.specs.Combine.{_orFails_, _andThen_, combineReadings};
 ghost use Rattle.rules.specs.Walk.{recurseOrdered, alternatives, eachMember};
-ghost use Rattle.rules.specs.Rule.{timesCount};
+ghost use Rattle.rules.specs.Rule.{timesCount, secondReading};
 ghost use Rattle.verdicts.specs.Reasons.{reasonNumber, markOf};
 ghost use Rattle.restriction.specs.Views.{asOnce, eachOnce, asAny, judge, rangeReason};
+use pairs::base_once;
 use pairs::base_range;
 use pairs::derived_range;
 use pairs::exactly_one;
@@ -228,7 +228,8 @@ fn same_kind(
     Verdict::Violation(Reason::SequenceRange)
 }
 
-// Element against sequence: two readings. An element that counts once is walked in the same way in both.
+// Element against sequence: two readings. For an element that counts once the first answers for both: they walk it in the same way,
+// and where its pair isn't within the base's both fail.
 fn element_sequence(
     d: &[u8],
     once: bool,
@@ -242,26 +243,26 @@ fn element_sequence(
 ) -> Verdict
     requires { ⌜ Run 1 (now d) ⌝ }
     requires { ⌜ Run bn (now bs) ⌝ }
-    ensures { λ r. ⌜ markOf r ≡ combineReadings (rangeOk p q orFails 105 andThen recurseOrdered (judge (now (leaves .entry)) (now (tables .entry)) n) false (eachOnce true (row 1 (now (d .entry)))) (row bn (now (bs .entry)))) (leb (q .min) 1 orFails 110 andThen recurseOrdered (judge (now (leaves .entry)) (now (tables .entry)) n) false (eachOnce once (row 1 (now (d .entry)))) (row bn (now (bs .entry)))) ⌝ }
+    requires { ⌜ (once ≡ true → p ≡ exactly 1) ⌝ }
+    ensures { λ r. ⌜ markOf r ≡ combineReadings (rangeOk p q orFails 105 andThen recurseOrdered (judge (now (leaves .entry)) (now (tables .entry)) n) false (eachOnce true (row 1 (now (d .entry)))) (row bn (now (bs .entry)))) (secondReading q 110 (recurseOrdered (judge (now (leaves .entry)) (now (tables .entry)) n) false (eachOnce once (row 1 (now (d .entry)))) (row bn (now (bs .entry))))) ⌝ }
 {
     let wrapped = same_kind(d, 1, true, p, bs, bn, q, false, leaves, tables, n);
+    if once {
+        return wrapped;
+    }
     if let Verdict::Ok = wrapped {
         return Verdict::Ok;
     }
-    if 1 < q.min {
-        return verdicts::combine_readings(wrapped, Verdict::Violation(Reason::SequenceRequired));
-    }
-    if once {
-        if particle::range_ok(p, q) {
-            return wrapped;
-        }
-    }
+    let sequence_once = base_once(q, Reason::SequenceRequired);
+    let Verdict::Ok = sequence_once else {
+        return verdicts::combine_readings(wrapped, sequence_once);
+    };
     let direct = recurse_ordered(d, 1, once, bs, bn, false, leaves, tables, n);
     verdicts::combine_readings(wrapped, direct)
 }
 
-// Element against choice: two readings. For an element that counts once both ask the same of each alternative, and one pass over
-// them answers for both.
+// Element against choice: two readings. For an element that counts once both ask the same of each alternative, so that one pass over
+// them answers for both, and where its pair isn't within the base's both fail.
 fn element_choice(
     d: &[u8],
     once: bool,
@@ -275,23 +276,23 @@ fn element_choice(
 ) -> Verdict
     requires { ⌜ Run 1 (now d) ⌝ }
     requires { ⌜ Run bn (now bs) ⌝ }
-    ensures { λ r. ⌜ markOf r ≡ combineReadings (rangeOk p q orFails 106 andThen recurseOrdered (judge (now (leaves .entry)) (now (tables .entry)) n) true (eachOnce true (row 1 (now (d .entry)))) (row bn (now (bs .entry)))) (leb (q .min) 1 orFails 112 andThen alternatives (judge (now (leaves .entry)) (now (tables .entry)) n) 111 (asOnce once (tree (now (d .entry)))) (row bn (now (bs .entry)))) ⌝ }
+    requires { ⌜ (once ≡ true → p ≡ exactly 1) ⌝ }
+    ensures { λ r. ⌜ markOf r ≡ combineReadings (rangeOk p q orFails 106 andThen recurseOrdered (judge (now (leaves .entry)) (now (tables .entry)) n) true (eachOnce true (row 1 (now (d .entry)))) (row bn (now (bs .entry)))) (secondReading q 112 (alternatives (judge (now (leaves .entry)) (now (tables .entry)) n) 111 (asOnce once (tree (now (d .entry)))) (row bn (now (bs .entry))))) ⌝ }
 {
     if once {
-        if q.min <= 1 {
-            if particle::range_ok(p, q) {
-                return any_alternative(d, once, bs, bn, Reason::NotAllowed, leaves, tables, n);
-            }
-            return any_alternative(d, once, bs, bn, Reason::ChoiceRange, leaves, tables, n);
+        if !particle::range_ok(p, q) {
+            return Verdict::Violation(Reason::ChoiceRange);
         }
+        return any_alternative(d, once, bs, bn, Reason::NotAllowed, leaves, tables, n);
     }
     let wrapped = same_kind(d, 1, true, p, bs, bn, q, true, leaves, tables, n);
     if let Verdict::Ok = wrapped {
         return Verdict::Ok;
     }
-    if 1 < q.min {
-        return verdicts::combine_readings(wrapped, Verdict::Violation(Reason::ChoiceRequired));
-    }
+    let choice_once = base_once(q, Reason::ChoiceRequired);
+    let Verdict::Ok = choice_once else {
+        return verdicts::combine_readings(wrapped, choice_once);
+    };
     let direct = any_alternative(d, once, bs, bn, Reason::NoAlternative, leaves, tables, n);
     verdicts::combine_readings(wrapped, direct)
 }

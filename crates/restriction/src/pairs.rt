@@ -1,17 +1,21 @@
 // Kind numbers and occurrence pairs, as the rules take them.
 ghost use mathlib.Core.Path.{_≡_};
 ghost use Prim.Native.Nat.{_≤_};
-ghost use Rattle.particle.specs.Occurs.{exactly};
+ghost use Rattle.particle.specs.Occurs.{exactly, isZero};
 ghost use Rattle.particle.specs.Tree.{headOf, pairOf};
 ghost use Rattle.particle.specs.Encode.{kindNumber};
 ghost use Rattle.totals.specs.Total.{cutMax};
-ghost use Rattle.rules.specs.Rule.{timesCountMax, timesCount};
+ghost use Rattle.rules.specs.Verdicts.{passes};
+ghost use Rattle.rules.specs.Rule.{timesCountMax, timesCount, secondReading};
+ghost use Rattle.verdicts.specs.Reasons.{reasonNumber, markOf};
 ghost use Rattle.restriction.specs.Views.{onceHead, anyHead};
 use particle::MaxOccurs;
 use particle::Occurs;
 use particle::Record;
 use totals::TotalMax;
 use totals::TotalRange;
+use verdicts::Reason;
+use verdicts::Verdict;
 
 // A record's kind number: a number above 4 counts as an all-group's.
 pub fn kind_of(r: Record) -> u8
@@ -57,6 +61,29 @@ pub fn base_range(r: Record, any: bool) -> Occurs
         }
     }
     particle::range(r)
+}
+
+fn is_zero(m: MaxOccurs) -> bool
+    ensures { λ b. ⌜ b ≡ isZero m ⌝ }
+{
+    match m {
+        MaxOccurs::Unbounded => false,
+        MaxOccurs::Bounded(n) => n == 0,
+    }
+}
+
+// What the second reading of an element asks of the base group's own pair: a maximum that is not 0, and a minimum of at most 1.
+pub fn base_once(q: Occurs, required: Reason) -> Verdict
+    ensures { λ r. ⌜ markOf r ≡ secondReading q (reasonNumber required) passes ⌝ }
+{
+    let qmax = q.max;
+    if is_zero(qmax) {
+        return Verdict::Violation(Reason::BaseMayNotOccur);
+    }
+    if 1 < q.min {
+        return Verdict::Violation(required);
+    }
+    Verdict::Ok
 }
 
 // A maximum times an item count; unbounded stays unbounded.

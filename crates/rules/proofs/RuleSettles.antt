@@ -1,10 +1,10 @@
 -- The rule keeps the order of marks: where the marks of items and wrapped groups settle, and the verdicts do, so does the rule's mark. Only pairs of less weight are asked for, and what holds of the derived tree's heads holds of theirs. Assumes nothing.
-use mathlib.Core.Bool.{Bool, true, false, _&&_, _||_}
+use mathlib.Core.Bool.{Bool, true, false, not, _&&_, _||_}
 use Prim.Native.Nat.{ℕ, suc, _+_, _*_, _≤_, _<_}
 use native.Mathlib.Omega.{arith}
 use lib.Dec.{leb}
 use Rattle.particle.specs.declared.Occurs.{Occurs}
-use Rattle.particle.specs.Occurs.{rangeOk, exactly}
+use Rattle.particle.specs.Occurs.{rangeOk, exactly, isZero}
 use Rattle.particle.specs.Tree.{Head, element, wildcard, sequence, choice, all, Items, none, item, Particle, sizeI, countI}
 use Rattle.totals.specs.Empty.{emptiable}
 use Rattle.totals.specs.Total.{total, totalOk}
@@ -13,7 +13,7 @@ use Rattle.rules.specs.Verdicts.{Mark, fails, Leaves, Tables}
 use Rattle.rules.specs.Combine.{_orFails_, _andThen_}
 use Rattle.rules.specs.Element.{maxRestrict, elementRestrict}
 use Rattle.rules.specs.Walk.{_⟦_⟧, Judge, recurseOrdered, alternatives, eachMember, Found, absent, found, takeNamed, recurseUnordered}
-use Rattle.rules.specs.Rule.{anyNumber, timesCount, groupWildcard, rule}
+use Rattle.rules.specs.Rule.{anyNumber, timesCount, secondReading, groupWildcard, rule}
 use Rattle.rules.proofs.Settles.{_⊑_, stays, and-settles, or-settles, readings-settle, step-settles}
 
 -- Weights: every mark that an entry of the rule asks for is of less weight than the entry ---------------------------------
@@ -48,6 +48,9 @@ pub record Kept (Q : Head → Type 0) : Type 0 where
 -- a test that no verdict decides, and then a mark
 guarded : (c : Bool) (r : ℕ) {n n′ : Mark} → n ⊑ n′ → c orFails r andThen n ⊑ c orFails r andThen n′
 guarded c r = and-settles {m = c orFails r} stays
+
+second-settles : (q : Occurs) (k : ℕ) {n n′ : Mark} → n ⊑ n′ → secondReading q k n ⊑ secondReading q k n′
+second-settles q k s = guarded (not (isZero (q .max))) 125 (guarded (leb (q .min) 1) k s)
 
 -- each verdict of T settles to that of T′
 pub record TablesSettle (T T′ : Tables) : Type 0 where
@@ -128,10 +131,10 @@ module _ (L : Leaves) (T T′ : Tables) (F : TablesSettle T T′) where
     rule-settles (element l p) di (wildcard m q) bi (o, os) H = guarded (rangeOk p q) 101 (F .second l m)
     rule-settles (element l p) di (sequence q) bi (o, os) H =
         readings-settle (H (sequence p ⟦ item (element l (exactly 1)) di none ⟧) (sequence q ⟦ bi ⟧) (kept .inSequence p, ((kept .counted l p o, os), tt)) (omega arith))
-        (guarded (leb (q .min) 1) 110 (walk-settles Q J J′ (suc (sizeI di)) (sizeI bi) (inside Q _ _ _ (omega arith) H) false (item (element l p) di none) bi ((o, os), tt) (omega arith) (omega arith)))
+        (second-settles q 110 (walk-settles Q J J′ (suc (sizeI di)) (sizeI bi) (inside Q _ _ _ (omega arith) H) false (item (element l p) di none) bi ((o, os), tt) (omega arith) (omega arith)))
     rule-settles (element l p) di (choice q) bi (o, os) H =
         readings-settle (H (choice p ⟦ item (element l (exactly 1)) di none ⟧) (choice q ⟦ bi ⟧) (kept .inChoice p, ((kept .counted l p o, os), tt)) (omega arith))
-        (guarded (leb (q .min) 1) 112 (alternatives-settle Q J J′ (suc (sizeI di)) (sizeI bi) (inside Q _ _ _ (omega arith) H) 111 (element l p ⟦ di ⟧) bi (o, os) (omega arith) (omega arith)))
+        (second-settles q 112 (alternatives-settle Q J J′ (suc (sizeI di)) (sizeI bi) (inside Q _ _ _ (omega arith) H) 111 (element l p ⟦ di ⟧) bi (o, os) (omega arith) (omega arith)))
     rule-settles (element l p) di (all q) bi (o, os) H = stays
     rule-settles (wildcard l p) di (element m q) bi (o, os) H = stays
     rule-settles (wildcard l p) di (wildcard m q) bi (o, os) H = guarded (rangeOk p q) 103 (guarded (leb (L .strength m) (L .strength l)) 104 (F .second l m))

@@ -1,9 +1,9 @@
 -- Demand 3, second half, for the rule: where it passes, the derived tree allows no more than the base, if that holds of the items and wrapped groups that it asks for. So it holds of the mark. Assumes nothing.
-use mathlib.Core.Bool.{true, false}
+use mathlib.Core.Bool.{true, false, not, false≢true}
 use mathlib.Core.List.{List}
 use mathlib.Core.Logic.{inl, ⊎-elim}
 use mathlib.Core.Path.{_≡_, refl, ap, subst}
-use Prim.Native.Nat.{ℕ, zero, suc, _*_}
+use Prim.Native.Nat.{ℕ, zero, suc, _*_, _≤_}
 use native.Mathlib.Nat.{le-trans, mul-le-mul-right}
 use native.Mathlib.Omega.{arith}
 use lib.Dec.{leb}
@@ -12,7 +12,7 @@ use borrow.Author.Tests.{leb-true}
 use Rattle.particle.specs.declared.MaxOccurs.{MaxOccurs}
 use Rattle.particle.specs.declared.MaxOccurs.the-variants.{Bounded, Unbounded}
 use Rattle.particle.specs.declared.Occurs.{Occurs}
-use Rattle.particle.specs.Occurs.{maxOk, rangeOk, exactly}
+use Rattle.particle.specs.Occurs.{maxOk, rangeOk, exactly, isZero}
 use Rattle.particle.specs.Tree.{Head, element, wildcard, sequence, choice, all, Items, none, item, Particle, countI, fold}
 use Rattle.particle.proofs.Tests.{and-true}
 use Rattle.totals.specs.Exact.{exactTotal}
@@ -30,7 +30,7 @@ use Rattle.tidying.proofs.Premises.{item-some}
 use Rattle.rules.specs.Verdicts.{Mark, Leaves, Tables}
 use Rattle.rules.specs.Combine.{_orFails_, _andThen_}
 use Rattle.rules.specs.Walk.{_⟦_⟧, Judge, recurseOrdered, alternatives, eachMember, recurseUnordered}
-use Rattle.rules.specs.Rule.{anyNumber, timesCountMax, exactTimesCount, timesCount, groupWildcard, rule}
+use Rattle.rules.specs.Rule.{anyNumber, timesCountMax, exactTimesCount, timesCount, secondReading, groupWildcard, rule}
 use Rattle.rules.specs.Mark.{steps, restrictTo, restrict}
 use Rattle.rules.specs.Demand.{NamesAmong}
 use Rattle.rules.proofs.Passing.{Passes, guard-passes, readings-pass}
@@ -38,16 +38,17 @@ use Rattle.rules.proofs.SoundElements.{Known, each, wildcard-names, ele
 use Rattle.rules.proofs.SoundWalk.{Regular, Sound, walk-in-order, walk-one-of, alternatives-sound, each-sound}
 
 -- a maximum that is not 0 allows a round
-one-most : (m : MaxOccurs) → ¬ (m ≡ Bounded 0) → AtMost 1 m
-one-most (Bounded zero) n = absurd (n refl)
+one-most : (m : MaxOccurs) → not (isZero m) ≡ true → AtMost 1 m
+one-most (Bounded zero) n = absurd (false≢true n)
 one-most (Bounded (suc m)) n = omega arith
 one-most Unbounded n = tt
 
-some-maximum : ¬ (Bounded 1 ≡ Bounded 0)
-some-maximum e = let z : _≡_ {A = ℕ} 1 0 = cc in omega arith
-
-unbounded-maximum : ¬ (Unbounded ≡ Bounded 0)
-unbounded-maximum e = let z : _≡_ {A = ℕ} 0 1 = cc in omega arith
+-- where the second reading passes, the base allows one round
+second-passes : (q : Occurs) (k : ℕ) (m : Mark) → Passes (secondReading q k m) → (q .min ≤ 1) × AtMost 1 (q .max) × Passes m
+second-passes q k m t =
+    let (z, s) = guard-passes (not (isZero (q .max))) 125 (leb (q .min) 1 orFails k andThen m) t in
+    let (h, u) = guard-passes (leb (q .min) 1) k m s in
+    (leb-true (q .min) 1 h, one-most (q .max) z, u)
 
 -- as many names as the word is long, and its length within a pair within q
 names-in-range : (S : ℕ → Type 0) (t q : Occurs) → rangeOk t q ≡ true → (w : List ℕ) → Within (length w) t → Rounds anyNumber (Name S) w → Rounds q (Name S) w
@@ -112,7 +113,7 @@ module _ (L : Leaves) (T : Tables) (derived base : Names) (N : NamesAmong L T de
         → Allows derived (d ⟦ di ⟧) ⊆ Allows base (wildcard m q ⟦ bi ⟧)
     unfolding Allows total
     group-sound d di m q bi ks (R, rs) t f w x =
-        let R′ : Regular L (wildcard m anyNumber) bi = record { known = R .known; ordered = tt; nonzero = unbounded-maximum; nonempty = tt } in
+        let R′ : Regular L (wildcard m anyNumber) bi = record { known = R .known; ordered = tt; nonempty = tt } in
         let member : Particle → Mark = λ y. J y (wildcard m anyNumber ⟦ bi ⟧) in
         let (h, s) = guard-passes (totalOk (total (d ⟦ di ⟧)) q) 113 (eachMember member di) t in
         let inside = each-sound L derived base member (Rounds anyNumber (Name (base m))) (λ y K s. S y (wildcard m anyNumber ⟦ bi ⟧) K (R′, rs) s) di ks s in
@@ -129,17 +130,17 @@ module _ (L : Leaves) (T : Tables) (derived base : Names) (N : NamesAmong L T de
         let own = item (element l p) di none in
         λ w x. ⊎-elim
         (λ s. S wrapped (sequence q ⟦ bi ⟧) (tt, ((K, ks), tt)) (R, rs) s w (moved-to-sequence derived l p di w x))
-        (λ s. let (h, s′) = guard-passes (leb (q .min) 1) 110 (recurseOrdered J false own bi) s in
-        one-round (leb-true (q .min) 1 h) (one-most (q .max) (R .nonzero)) w (walk-in-order L derived base J S own bi ((K, ks), tt) rs s′ w (unfold fold in in-order-one w .1 x)))
-        (readings-pass (J wrapped (sequence q ⟦ bi ⟧)) (leb (q .min) 1 orFails 110 andThen recurseOrdered J false own bi) t)
+        (λ s. let (least, most, s′) = second-passes q 110 (recurseOrdered J false own bi) s in
+        one-round least most w (walk-in-order L derived base J S own bi ((K, ks), tt) rs s′ w (unfold fold in in-order-one w .1 x)))
+        (readings-pass (J wrapped (sequence q ⟦ bi ⟧)) (secondReading q 110 (recurseOrdered J false own bi)) t)
     rule-sound (element l p) di (choice q) bi (K, ks) (R, rs) t =
         let wrapped = choice p ⟦ item (element l (exactly 1)) di none ⟧ in
         let own = element l p ⟦ di ⟧ in
         λ w x. ⊎-elim
         (λ s. S wrapped (choice q ⟦ bi ⟧) (tt, ((K, ks), tt)) (R, rs) s w (moved-to-choice derived l p di w x))
-        (λ s. let (h, s′) = guard-passes (leb (q .min) 1) 112 (alternatives J 111 own bi) s in
-        one-round (leb-true (q .min) 1 h) (one-most (q .max) (R .nonzero)) w (alternatives-sound L derived base J S 111 own bi (K, ks) rs s′ w x))
-        (readings-pass (J wrapped (choice q ⟦ bi ⟧)) (leb (q .min) 1 orFails 112 andThen alternatives J 111 own bi) t)
+        (λ s. let (least, most, s′) = second-passes q 112 (alternatives J 111 own bi) s in
+        one-round least most w (alternatives-sound L derived base J S 111 own bi (K, ks) rs s′ w x))
+        (readings-pass (J wrapped (choice q ⟦ bi ⟧)) (secondReading q 112 (alternatives J 111 own bi)) t)
     rule-sound (element l p) di (all q) bi ks rs t = absurd t
     rule-sound (wildcard l p) di (element m q) bi ks rs t = absurd t
     rule-sound (wildcard l p) di (wildcard m q) bi ((k, e), ks) (R, rs) t =
@@ -151,7 +152,7 @@ module _ (L : Leaves) (T : Tables) (derived base : Names) (N : NamesAmong L T de
     rule-sound (wildcard l p) di (all q) bi ks rs t = absurd t
     rule-sound (sequence p) di (element m q) bi ks (R, rs) t =
         λ w x. out-of-sequence base m q bi w
-        (S (sequence p ⟦ di ⟧) (sequence (exactly 1) ⟦ item (element m q) bi none ⟧) ks (record { known = tt; ordered = omega arith; nonzero = some-maximum; nonempty = tt }, ((R, rs), tt)) t w x)
+        (S (sequence p ⟦ di ⟧) (sequence (exactly 1) ⟦ item (element m q) bi none ⟧) ks (record { known = tt; ordered = omega arith; nonempty = tt }, ((R, rs), tt)) t w x)
     rule-sound (sequence p) di (wildcard m q) bi (K, ks) rs t =
         group-sound (sequence p) di m q bi ks rs t (λ inside. rounds-within (names-closed (base m)) (in-order-within (names-closed (base m)) (each derived di) inside))
     rule-sound (sequence p) di (sequence q) bi (K, ks) (R, rs) t =
@@ -167,7 +168,7 @@ module _ (L : Leaves) (T : Tables) (derived base : Names) (N : NamesAmong L T de
         rounds-mono h (λ w x. unordered-sound L T derived base N di bi ks (every-map (λ h k r. r .known) bi rs) s w (in-order-any (each derived di) w x))
     rule-sound (choice p) di (element m q) bi ks (R, rs) t =
         λ w x. out-of-choice base m q bi w
-        (S (choice p ⟦ di ⟧) (choice (exactly 1) ⟦ item (element m q) bi none ⟧) ks (record { known = tt; ordered = omega arith; nonzero = some-maximum; nonempty = item-some (element m q) bi none }, ((R, rs), tt)) t w x)
+        (S (choice p ⟦ di ⟧) (choice (exactly 1) ⟦ item (element m q) bi none ⟧) ks (record { known = tt; ordered = omega arith; nonempty = item-some (element m q) bi none }, ((R, rs), tt)) t w x)
     rule-sound (choice p) di (wildcard m q) bi (K, ks) rs t =
         group-sound (choice p) di m q bi ks rs t (λ inside. rounds-within (names-closed (base m)) (one-of-within (each derived di) (Rounds anyNumber (Name (base m))) inside))
     rule-sound (choice p) di (sequence q) bi ks rs t = absurd t

@@ -7,7 +7,7 @@ use Prim.Native.Nat.{ℕ}
 use Rattle.particle.specs.Tree.{Head, Items, none, item, Particle, fold}
 use Rattle.totals.specs.Empty.{emptiable}
 use Rattle.language.specs.Language.{Words, InOrder, OneOf, Names, Allows}
-use Rattle.language.specs.Premises.{Every, Throughout, NoZeroMaximum, NoEmptyChoice, Ordered}
+use Rattle.language.specs.Premises.{Every, Throughout, NoEmptyChoice, Ordered}
 use Rattle.language.proofs.Words.{_⊆_, followed-mono}
 use Rattle.language.proofs.Joining.{AllWithin}
 use Rattle.language.proofs.Premises.{throughout-map}
@@ -22,7 +22,6 @@ use Rattle.rules.proofs.SoundElements.{Known, each}
 pub record Regular (L : Leaves) (h : Head) (k : Items) : Type 0 where
   pub known : LeafKnown L h
   pub ordered : Ordered h k
-  pub nonzero : NoZeroMaximum h k
   pub nonempty : NoEmptyChoice h k
 
 -- where J passes, the derived tree allows no more than the base

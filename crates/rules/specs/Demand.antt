@@ -5,7 +5,7 @@ use mathlib.Core.Path.{_≡_}
 use Prim.Native.Nat.{ℕ, _≤_, _<_}
 use Rattle.particle.specs.Tree.{Head, element, wildcard, sequence, choice, all, Particle}
 use Rattle.language.specs.Language.{Names, Allows}
-use Rattle.language.specs.Premises.{Throughout, NoZeroMaximum, NoEmptyChoice, Ordered}
+use Rattle.language.specs.Premises.{BelowRoot, Throughout, NoZeroMaximum, NoEmptyChoice, Ordered}
 use Rattle.rules.specs.Verdicts.{Mark, passes, undecided, fails, Leaves, Tables}
 use Rattle.rules.specs.Mark.{mark}
 
@@ -49,12 +49,13 @@ LeafKnown L (sequence p) = Unit {0}
 LeafKnown L (choice p) = Unit {0}
 LeafKnown L (all p) = Unit {0}
 
--- What is supposed of each of the two trees, as handed in. That it is accepted gives the first two: else refusal 5 or 10, and 6 or 11. Demand 3 itself supposes the last two.
+-- What is supposed of each of the two trees, as handed in. That it is accepted gives the first two: else refusal 5 or 10, and 6 or 11.
+-- Document 02 §5 supposes the last two: 'no empty choice and no zero maximum below a root; the roots may now have it'.
 pub record Supposed (L : Leaves) (x : Particle) : Type 0 where
   pub leavesKnown : Throughout (λ h k. LeafKnown L h) x
   pub ordered : Throughout Ordered x
-  pub noZeroMaximum : Throughout NoZeroMaximum x
   pub noEmptyChoice : Throughout NoEmptyChoice x
+  pub noZeroBelow : BelowRoot NoZeroMaximum x
 
 -- Where the mark is a pass, every sequence of names that the derived tree allows is allowed by the base tree, whatever sets of names the leaves have as derived and as base.
 abbrev pub PassesIncludes : Type 1

@@ -1,4 +1,4 @@
--- Document 01's examples that are to be proved (its 'P' examples), in its notation. Assumes nothing: these are definitions.
+-- Document 01's examples that are to be proved (its 'P' examples), in its notation, as document 02 has changed them. Assumes nothing: these are definitions.
 use mathlib.Core.List.{List, [], _∷_}
 use mathlib.Core.Path.{_≡_}
 use Prim.Native.Nat.{ℕ}
@@ -84,8 +84,8 @@ examples =
     -- S[a,b] | S[a,c(0,1),b]: passes; with c: 140
     ∷ marked (S once (a once ∷ b once ∷ [])) (S once (a once ∷ c (pair 0 1) ∷ b once ∷ [])) passes
     ∷ marked (S once (a once ∷ b once ∷ [])) (S once (a once ∷ c once ∷ b once ∷ [])) (fails 140)
-    -- a | S(0,0)[a]: passes
-    ∷ marked (a once) (S (pair 0 0) (a once ∷ [])) passes
+    -- a | S(0,0)[a]: 105, the first reading's reason (document 02 §5)
+    ∷ marked (a once) (S (pair 0 0) (a once ∷ [])) (fails 105)
     -- C[] | C[a,b]: passes
     ∷ marked (C once []) (C once (a once ∷ b once ∷ [])) passes
     -- S(2,2)[a,b] | C(4,4)[a,b]: passes; C(1,3): 116

@@ -7,7 +7,7 @@ use Rattle.particle.specs.Tree.{Particle}
 use Rattle.rules.specs.Verdicts.{Mark, passes, undecided, fails, Leaves, Tables}
 use Rattle.rules.specs.Mark.{mark}
 
--- A reason of the rules, 101 to 124, but none of the second reading's, 110 to 112; or 'a reason that the paper sets', 140 to 152.
+-- A reason of the rules, 101 to 125, but none of the second reading's, 110 to 112 and 125; or 'a reason that the paper sets', 140 to 152.
 abbrev pub canShow : (reason : ℕ) → Bool
 canShow r = (leb 101 r && leb r 109) || (leb 113 r && leb r 124) || (leb 140 r && leb r 152)
 
@@ -21,6 +21,6 @@ pub record PaperVerdicts (T : Tables) : Type 0 where
   pub first : (l m : ℕ) → OfPaper (T .first l m)
   pub second : (l m : ℕ) → OfPaper (T .second l m)
 
--- Where the mark is a failure, its reason is one of these. So it is never 110, 111 or 112: 'two failures give the first's reason'.
+-- Where the mark is a failure, its reason is one of these. So it is never 110, 111, 112 or 125: 'two failures give the first's reason'.
 abbrev pub ReasonsShown : Type 0
 ReasonsShown = (L : Leaves) (T : Tables) → PaperVerdicts T → (d b : Particle) (r : ℕ) → mark L T d b ≡ fails r → canShow r ≡ true

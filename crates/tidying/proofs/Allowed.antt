@@ -1,4 +1,4 @@
--- Tidying keeps what a tree allows, where the tree has no zero maximum. Assumes nothing.
+-- Tidying keeps what a tree allows, where the tree has no zero maximum below its root. Assumes nothing.
 use mathlib.Core.Bool.{true}
 use mathlib.Core.List.{List, [], _∷_, _++_}
 use mathlib.Core.Logic.{_↔_}
@@ -7,7 +7,7 @@ use Prim.Native.Nat.{ℕ}
 use Rattle.particle.specs.Occurs.{isOnce}
 use Rattle.particle.specs.Tree.{Head, sequence, choice, Particle, pairOf, fold}
 use Rattle.language.specs.Language.{Words, InOrder, OneOf, Names, wordsFrom, Allows}
-use Rattle.language.specs.Premises.{Throughout, NoZeroMaximum}
+use Rattle.language.specs.Premises.{BelowRoot, NoZeroMaximum}
 use Rattle.language.proofs.Words.{_≐_, same, turned, _⟫_, followed-same, in-order-joined, in-order-one, or-same, one-of-joined, one-of-one}
 use Rattle.language.proofs.Rounds.{rounds-same, once-same}
 use Rattle.tidying.specs.Tidy.{splices, takesPair, tidy}
@@ -53,6 +53,6 @@ module _ (names : Names) where
     paired = λ g h e Ws. paired Ws g h e;
   }
 
-  pub tidy-allows : (x : Particle) → Throughout NoZeroMaximum x → (w : List ℕ) → Allows names (tidy x) w ↔ Allows names x w
+  pub tidy-allows : (x : Particle) → BelowRoot NoZeroMaximum x → (w : List ℕ) → Allows names (tidy x) w ↔ Allows names x w
   unfolding Allows
   tidy-allows = tidy-keeps words-kept (λ h k z. z) tidy-no-zero-maximum

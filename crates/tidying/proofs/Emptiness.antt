@@ -1,4 +1,4 @@
--- Tidying keeps emptiness, where the tree has no zero maximum and no empty choice. Assumes nothing.
+-- Tidying keeps emptiness, where the tree has no zero maximum and no empty choice below its root. Assumes nothing.
 use mathlib.Core.Bool.{Bool, true, false, _&&_, _||_, and-true, or-false, and-assoc, or-assoc}
 use mathlib.Core.List.{List, [], _∷_, _++_}
 use mathlib.Core.Path.{_≡_, refl, ap, sym, _∙_}
@@ -6,8 +6,8 @@ use Rattle.particle.specs.declared.Occurs.{Occurs}
 use Rattle.particle.specs.Occurs.{isOnce}
 use Rattle.particle.specs.Tree.{Head, choice, Items, none, item, Particle, pairOf, fold}
 use Rattle.totals.specs.Empty.{every, some, isEmpty, optional, emptiableFrom, emptiable}
-use Rattle.language.specs.Premises.{Throughout, NoZeroMaximum, NoEmptyChoice}
-use Rattle.language.proofs.Premises.{throughout-both}
+use Rattle.language.specs.Premises.{BelowRoot, NoZeroMaximum, NoEmptyChoice}
+use Rattle.language.proofs.Premises.{every-both}
 use Rattle.language.proofs.Rounds.{once-is}
 use Rattle.tidying.specs.Tidy.{splices, takesPair, tidy}
 use Rattle.tidying.specs.TidyTree.{Group}
@@ -63,6 +63,6 @@ emptiness-kept = record {
   paired = λ g h e es. paired es g h e;
 }
 
-pub tidy-emptiable : (x : Particle) → Throughout NoZeroMaximum x → Throughout NoEmptyChoice x → emptiable (tidy x) ≡ emptiable x
+pub tidy-emptiable : (x : Particle) → BelowRoot NoZeroMaximum x → BelowRoot NoEmptyChoice x → emptiable (tidy x) ≡ emptiable x
 unfolding emptiable
-tidy-emptiable x z n = tidy-keeps emptiness-kept (λ h k p. p .0) tidy-plain x (throughout-both (λ h k a b. (a, b)) x z n)
+tidy-emptiable x z n = tidy-keeps emptiness-kept (λ h k p. p .0) tidy-plain x (every-both (λ h k a b. (a, b)) (x .items) z n)

@@ -4,7 +4,7 @@ use mathlib.Core.List.{List, [], _∷_, _++_, append-assoc}
 use mathlib.Core.Path.{_≡_}
 use Rattle.particle.specs.Occurs.{isZero, isOnce}
 use Rattle.particle.specs.Tree.{Head, choice, Items, none, item, Particle, pairOf, fold, _then_}
-use Rattle.language.specs.Premises.{Every, Throughout, NoZeroMaximum}
+use Rattle.language.specs.Premises.{Every, BelowRoot, Throughout, NoZeroMaximum}
 use Rattle.tidying.specs.Tidy.{splices, put, keep, takesPair, lone, closed, settle, tidyItems, tidy}
 use Rattle.tidying.specs.TidyTree.{Group}
 use Rattle.tidying.proofs.Steps.{branch, settle-cases, zero-is, fold-then}
@@ -74,6 +74,7 @@ module _ {ℓ} {A : Type ℓ} {P : Head → Items → Type 0} {f : Head → List
       (L .chained _ _ _ (simp append-assoc at (items-value g s (before ++ valueOf f x ∷ []) r ps))
       (L .tidied g s before (valueOf f x) (f h (fold f k)) (fold f r) (settle-value h k (tidyItems h k) (λ s. items-value h s [] k (w .1)))))
 
-  pub tidy-keeps : (x : Particle) → Throughout P x → valueOf f (tidy x) ≈ valueOf f x
+  -- of the root itself nothing is asked
+  pub tidy-keeps : (x : Particle) → BelowRoot P x → valueOf f (tidy x) ≈ valueOf f x
   unfolding tidy
-  tidy-keeps x w = settle-value (x .head) (x .items) (tidyItems (x .head) (x .items)) (λ s. items-value (x .head) s [] (x .items) (w .1))
+  tidy-keeps x ps = settle-value (x .head) (x .items) (tidyItems (x .head) (x .items)) (λ s. items-value (x .head) s [] (x .items) ps)

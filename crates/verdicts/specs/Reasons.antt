@@ -1,9 +1,9 @@
--- Document 01's number of each reason, and the mark that a verdict of the code stands for. Assumes nothing: these are definitions.
+-- The number of each reason, document 01's and document 02's, and the mark that a verdict of the code stands for. Assumes nothing: these are definitions.
 use mathlib.Core.Bool.{Bool, true, false}
 use Prim.Native.Nat.{ℕ}
 use Rattle.rules.specs.Verdicts.{Mark, passes, undecided, fails}
 use Rattle.verdicts.specs.declared.Reason.{Reason}
-use Rattle.verdicts.specs.declared.Reason.the-variants.{ElementWildcardRange, WildcardElement, WildcardRange, WeakerProcessContents, SequenceRange, ChoiceRange, AllRange, NotInAll, MissingFromAll, SequenceRequired, NoAlternative, ChoiceRequired, TotalRange, WildcardGroup, GroupKind, SequenceTotal, MemberAlternative, SequenceAllRange, MemberNotElement, NotAllowed, RequiredMissing, MinBelow, MaxUnbounded, MaxAbove, Set}
+use Rattle.verdicts.specs.declared.Reason.the-variants.{ElementWildcardRange, WildcardElement, WildcardRange, WeakerProcessContents, SequenceRange, ChoiceRange, AllRange, NotInAll, MissingFromAll, SequenceRequired, NoAlternative, ChoiceRequired, TotalRange, WildcardGroup, GroupKind, SequenceTotal, MemberAlternative, SequenceAllRange, MemberNotElement, NotAllowed, RequiredMissing, MinBelow, MaxUnbounded, MaxAbove, BaseMayNotOccur, Set}
 use Rattle.verdicts.specs.declared.Verdict.{Verdict}
 use Rattle.verdicts.specs.declared.Verdict.the-variants.{Ok, Unknown, Violation}
 use Rattle.verdicts.specs.Paper.{paperReason}
@@ -34,6 +34,7 @@ reasonNumber RequiredMissing = 121
 reasonNumber MinBelow = 122
 reasonNumber MaxUnbounded = 123
 reasonNumber MaxAbove = 124
+reasonNumber BaseMayNotOccur = 125
 reasonNumber (Set n) = paperReason n
 
 abbrev pub markOf : Verdict → Mark

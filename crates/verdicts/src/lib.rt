@@ -26,7 +26,7 @@ const FIRST_SET: u8 = 140;
 
 const LAST_SET: u8 = 152;
 
-// Why a restriction fails. Document 01's number of each: specs/Reasons.antt.
+// Why a restriction fails. The number of each, document 01's and document 02's: specs/Reasons.antt.
 pub enum Reason {
     ElementWildcardRange,
     WildcardElement,
@@ -52,6 +52,7 @@ pub enum Reason {
     MinBelow,
     MaxUnbounded,
     MaxAbove,
+    BaseMayNotOccur,
     // A reason that the paper sets: 140 to 152.
     Set(u8),
 }
@@ -105,7 +106,7 @@ fn paper_reason(n: u8) -> u32
     n as u32
 }
 
-// Document 01's number of a reason.
+// The number of a reason.
 pub fn reason_number(r: Reason) -> u32
     ensures { λ n. ⌜ n ≡ reasonNumber r ⌝ }
 {
@@ -134,6 +135,7 @@ pub fn reason_number(r: Reason) -> u32
         Reason::MinBelow => 122,
         Reason::MaxUnbounded => 123,
         Reason::MaxAbove => 124,
+        Reason::BaseMayNotOccur => 125,
         Reason::Set(n) => paper_reason(n),
     }
 }

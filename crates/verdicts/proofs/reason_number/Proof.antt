@@ -41,6 +41,8 @@ reason-number-spec =
     (λ c. search needs)
     (λ c. search needs)
     (λ c. search needs)
+    (λ c. search needs)
+    (λ c. search arm)
     (λ c. search arm)
     (λ c. search arm)
     (λ c. search arm)

@@ -6,6 +6,7 @@ use Rattle.particle.proofs.items.Reads as items-reads
 use Rattle.particle.proofs.next.Reads as next-reads
 use Rattle.particle.proofs.range_ok.Reads as range-ok-reads
 use Rattle.particle.proofs.record_at.Reads as record-at-reads
+use Rattle.restriction.proofs.pairs.base_once.Reads as base-once-reads
 use Rattle.restriction.proofs.pairs.base_range.Reads as base-range-reads
 use Rattle.restriction.proofs.pairs.derived_range.Reads as derived-range-reads
 use Rattle.restriction.proofs.pairs.exactly_one.Reads as exactly-one-reads
@@ -140,10 +141,10 @@ module _ (t : ℕ) where
   by-kinds-calls = (record-at-reads.Asked, record-at-reads.Learnt, derived-range-reads.Asked, derived-range-reads.Learnt, base-range-reads.Asked, base-range-reads.Learnt, items-reads.Asked, items-reads.Learnt, exactly-one-reads.Asked, exactly-one-reads.Learnt, kind-of-reads.Asked, kind-of-reads.Learnt, element-restrict-reads.Asked, element-restrict-reads.Learnt, element-wildcard-reads.Asked, element-wildcard-reads.Learnt, element-sequence-below, element-sequence.Post, element-choice-below, element-choice.Post, wildcard-wildcard-reads.Asked, wildcard-wildcard-reads.Learnt, same-kind-below, same-kind.Post, group-wildcard-below, group-wildcard.Post, sequence-choice-below, sequence-choice.Post, group-all-reads.Asked, group-all-reads.Learnt)
 
   abbrev pub element-choice-calls : element-choice-lts.Claims
-  element-choice-calls = (range-ok-reads.Asked, range-ok-reads.Learnt, any-alternative-below, any-alternative.Post, same-kind-below, same-kind.Post, combine-readings-reads.Asked, combine-readings-reads.Learnt)
+  element-choice-calls = (range-ok-reads.Asked, range-ok-reads.Learnt, any-alternative-below, any-alternative.Post, same-kind-below, same-kind.Post, base-once-reads.Asked, base-once-reads.Learnt, combine-readings-reads.Asked, combine-readings-reads.Learnt)
 
   abbrev pub element-sequence-calls : element-sequence-lts.Claims
-  element-sequence-calls = (same-kind-below, same-kind.Post, combine-readings-reads.Asked, combine-readings-reads.Learnt, range-ok-reads.Asked, range-ok-reads.Learnt, recurse-ordered-below, recurse-ordered.Post)
+  element-sequence-calls = (same-kind-below, same-kind.Post, base-once-reads.Asked, base-once-reads.Learnt, combine-readings-reads.Asked, combine-readings-reads.Learnt, recurse-ordered-below, recurse-ordered.Post)
 
   abbrev pub group-wildcard-calls : group-wildcard-lts.Claims
   group-wildcard-calls = (effective-total-range-reads.Asked, effective-total-range-reads.Learnt, total-ok-reads.Asked, total-ok-reads.Learnt, next-reads.Asked, next-reads.Learnt, by-kinds-below, by-kinds.Post, definite-reads.Asked, definite-reads.Learnt)

@@ -6,7 +6,7 @@ use mathlib.Core.Path.{sym, _∙_}
 use Rattle.particle.proofs.Laws.{some-bytes}
 use Rattle.particle.proofs.Runs.{run-few}
 use Rattle.rules.specs.Rule.{rule}
-use Rattle.restriction.proofs.Arms.{Sides, to-base, to-derived, to-members, to-both, arm, other-arm, element-sequence-arm, element-choice-arm, sequence-element-arm, choice-element-arm, sequences-arm, choices-arm, group-wildcard-arm, sequence-choice-arm}
+use Rattle.restriction.proofs.Arms.{Sides, to-readings, to-derived, to-members, to-both, arm, other-arm, element-sequence-arm, element-choice-arm, sequence-element-arm, choice-element-arm, sequences-arm, choices-arm, group-wildcard-arm, sequence-choice-arm}
 use Rattle.restriction.proofs.by_kinds.Reads as reads
 use Rattle.restriction.proofs.+any_alternative+by_kinds+element_choice+element_sequence+group_wildcard+recurse_ordered+restrict+same_kind+sequence_choice.Lts-by_kinds as lts
 use Rattle.restriction.proofs.+any_alternative+by_kinds+element_choice+element_sequence+group_wildcard+recurse_ordered+restrict+same_kind+sequence_choice.Proof.Base.{by-kinds-at, by-kinds-calls}
@@ -66,8 +66,8 @@ by-kinds-closed t =
     (λ c. search needs)
     (λ c κs. search needs)
     (λ c κs. search needs)
-    (λ c κs. to-base (sides t (search)))
-    (λ c κs. to-base (sides t (search)))
+    (λ c κs. to-readings (sides t (search)) 2 (omega arith) (search))
+    (λ c κs. to-readings (sides t (search)) 3 (omega arith) (search))
     (λ c κs. search needs)
     (λ c κs. to-derived (sides t (search)))
     (λ c κs. to-members (sides t (search)))

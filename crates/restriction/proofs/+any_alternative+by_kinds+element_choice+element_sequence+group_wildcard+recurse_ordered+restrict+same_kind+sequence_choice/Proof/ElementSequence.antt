@@ -11,12 +11,13 @@ pub element-sequence-closed : {M : Type 1} (t : ℕ) → lts.Closed (element-seq
 element-sequence-closed t =
     lts.spec (element-sequence-calls t) (element-sequence-at t) reads.Post
     (λ c κs. (omega arith, search needs))
+    (λ c. search once-sequence-reads)
     (λ c. search needs)
     (λ c. search first-passes)
     (λ c κs. search needs)
-    (λ c. search second-fails)
+    (λ c. search needs)
     (λ c κs. search needs)
-    (λ c. search once-sequence-reads)
+    (λ c. search second-fails)
     (λ c κs. (omega arith, search needs))
     (λ c κs. search needs)
     (λ c. search second-reads)
