@@ -20,7 +20,7 @@ use Rattle.totals.specs.Total.{total, totalOk}
 use Rattle.rules.specs.Verdicts.{Mark, fails, Leaves, Tables}
 use Rattle.rules.specs.Combine.{_orFails_, _andThen_, combineReadings}
 use Rattle.rules.specs.Walk.{_⟦_⟧, Judge, recurseOrdered, alternatives, eachMember}
-use Rattle.rules.specs.Rule.{anyNumber, timesCount, secondReading, rule}
+use Rattle.rules.specs.Rule.{anyNumber, timesCount, baseOnce, rule}
 use Rattle.rules.proofs.Unfolds.{mark-unfolds}
 use Rattle.verdicts.specs.declared.Verdict.{Verdict}
 use Rattle.verdicts.specs.Paper.{leavesOf, tablesOf}
@@ -143,13 +143,13 @@ module _ {leaves tables : List ℕ} {n : ℕ} {once any : Bool} {d b : List ℕ}
     alone-tree : asOnce once (tree d) ≡ element (dr .leaf) p ⟦ di ⟧
     alone-tree = rw (side-tree (S .derived), derived-head, k)
 
-  pub element-sequence-arm : 5 * dk + bk ≡ 2 → theMark ≡ combineReadings (rangeOk p q orFails 105 andThen recurseOrdered J false (eachOnce true (row 1 d)) bi) (secondReading q 110 (recurseOrdered J false (eachOnce once (row 1 d)) bi))
+  pub element-sequence-arm : 5 * dk + bk ≡ 2 → theMark ≡ combineReadings (rangeOk p q orFails 105 andThen recurseOrdered J false (eachOnce true (row 1 d)) bi) (baseOnce q 110 andThen recurseOrdered J false (eachOnce once (row 1 d)) bi)
   unfolding rule
   element-sequence-arm key =
       let k = derived-kind 0 2 (omega arith) key in
       arm 0 2 (omega arith) key ∙ rw (unwrap (sequence p) (sequence q) (item (element (dr .leaf) (exactly 1)) di none) bi, alone k, alone-once k)
 
-  pub element-choice-arm : 5 * dk + bk ≡ 3 → theMark ≡ combineReadings (rangeOk p q orFails 106 andThen recurseOrdered J true (eachOnce true (row 1 d)) bi) (secondReading q 112 (alternatives J 111 (asOnce once (tree d)) bi))
+  pub element-choice-arm : 5 * dk + bk ≡ 3 → theMark ≡ combineReadings (rangeOk p q orFails 106 andThen recurseOrdered J true (eachOnce true (row 1 d)) bi) (baseOnce q 112 andThen alternatives J 111 (asOnce once (tree d)) bi)
   unfolding rule
   element-choice-arm key =
       let k = derived-kind 0 3 (omega arith) key in

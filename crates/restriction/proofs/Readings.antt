@@ -17,7 +17,7 @@ use Rattle.particle.proofs.Laws.{row-one}
 use Rattle.rules.specs.Verdicts.{Mark, passes, undecided, fails}
 use Rattle.rules.specs.Combine.{_orFails_, _andThen_, _orElse_, combineReadings}
 use Rattle.rules.specs.Walk.{_⟦_⟧, Judge, recurseOrdered, alternatives}
-use Rattle.rules.specs.Rule.{secondReading}
+use Rattle.rules.specs.Rule.{baseOnce}
 use Rattle.verdicts.specs.declared.Verdict.{Verdict}
 use Rattle.verdicts.specs.declared.Verdict.the-variants.{Ok}
 use Rattle.verdicts.specs.Reasons.{markOf}
@@ -79,10 +79,10 @@ one-within q = ap (λ (c : Bool). leb (q .min) 1 && c) (go (q .max))
     go Unbounded = refl
 
 -- So an element that counts once has one range for both readings.
-pub once-readings : (q : Occurs) (r k : ℕ) (m n : Mark) → combineReadings (rangeOk (exactly 1) q orFails r andThen m) (secondReading q k n) ≡ rangeOk (exactly 1) q orFails r andThen combineReadings m n
+pub once-readings : (q : Occurs) (r k : ℕ) (m n : Mark) → combineReadings (rangeOk (exactly 1) q orFails r andThen m) (baseOnce q k andThen n) ≡ rangeOk (exactly 1) q orFails r andThen combineReadings m n
 once-readings q r k m n = rw (one-within q) (go (leb (q .min) 1) (not (isZero (q .max))))
   where
-    go : (low some : Bool) → combineReadings ((low && some) orFails r andThen m) (some orFails 125 andThen low orFails k andThen n) ≡ (low && some) orFails r andThen combineReadings m n
+    go : (low some : Bool) → combineReadings ((low && some) orFails r andThen m) ((some orFails 125 andThen low orFails k) andThen n) ≡ (low && some) orFails r andThen combineReadings m n
     go true true = refl
     go true false = refl
     go false true = refl
@@ -94,9 +94,9 @@ module _ (J : Judge) (b : Items) (p q : Occurs) {d : List ℕ} {once : Bool} (w 
   Sequence = rangeOk p q orFails 105 andThen recurseOrdered J false (eachOnce true (row 1 d)) b
 
   abbrev Choice : Mark
-  Choice = combineReadings (rangeOk p q orFails 106 andThen recurseOrdered J true (eachOnce true (row 1 d)) b) (secondReading q 112 (alternatives J 111 (asOnce once (tree d)) b))
+  Choice = combineReadings (rangeOk p q orFails 106 andThen recurseOrdered J true (eachOnce true (row 1 d)) b) (baseOnce q 112 andThen alternatives J 111 (asOnce once (tree d)) b)
 
-  pub once-sequence : Sequence ≡ combineReadings Sequence (secondReading q 110 (recurseOrdered J false (eachOnce once (row 1 d)) b))
+  pub once-sequence : Sequence ≡ combineReadings Sequence (baseOnce q 110 andThen recurseOrdered J false (eachOnce once (row 1 d)) b)
   once-sequence =
       let walk = recurseOrdered J false (eachOnce true (row 1 d)) b in
       rw (one o, o) (sym (once-readings q 105 110 walk walk ∙ ap (λ (m : Mark). rangeOk (exactly 1) q orFails 105 andThen m) (read-twice walk)))
@@ -108,7 +108,7 @@ module _ (J : Judge) (b : Items) (p q : Occurs) {d : List ℕ} {once : Bool} (w 
       rw (one o, o) (once-readings q 106 112 walk any ∙ ap (λ (m : Mark). rangeOk (exactly 1) q orFails 106 andThen m) (rw (once-alone w) (walk-and-alternatives J (asOnce true (tree d)) 111 b)))
 
   -- m is what the code answers, `ok` what it finds of the range
-  pub once-sequence-reads : {m : Mark} → m ≡ Sequence → m ≡ combineReadings Sequence (secondReading q 110 (recurseOrdered J false (eachOnce once (row 1 d)) b))
+  pub once-sequence-reads : {m : Mark} → m ≡ Sequence → m ≡ combineReadings Sequence (baseOnce q 110 andThen recurseOrdered J false (eachOnce once (row 1 d)) b)
   once-sequence-reads a = a ∙ once-sequence
 
   pub once-choice-reads : {m : Mark} {ok : Bool} → m ≡ alternatives J 120 (asOnce once (tree d)) b → ok ≡ rangeOk p q → ok ≡ true → m ≡ Choice
@@ -121,33 +121,23 @@ module _ (J : Judge) (b : Items) (p q : Occurs) {d : List ℕ} {once : Bool} (w 
 pub first-passes : {v : Verdict} {first : Mark} (second : Mark) → markOf v ≡ first → v ≡ Ok → passes ≡ combineReadings first second
 first-passes second a q = rw (← a, q)
 
--- the second reading: what the base's own pair says, and then its items
-second-parts : (q : Occurs) (k : ℕ) (items : Mark) → secondReading q k passes andThen items ≡ secondReading q k items
-second-parts q k items = go (leb (q .min) 1) (not (isZero (q .max)))
-  where
-    go : (low some : Bool) → (some orFails 125 andThen low orFails k andThen passes) andThen items ≡ some orFails 125 andThen low orFails k andThen items
-    go true true = refl
-    go true false = refl
-    go false true = refl
-    go false false = refl
+module _ {m a first : Mark} (q : Occurs) (k : ℕ) (v : Verdict) (f : a ≡ first) (g : markOf v ≡ baseOnce q k) where
+  pub second-fails : (rest : Mark) → m ≡ combineReadings a (markOf v) → NotOk v → m ≡ combineReadings first (baseOnce q k andThen rest)
+  second-fails rest e t = e ∙ rw f (ap (combineReadings first) (ended rest v g t))
 
-module _ {m a first : Mark} (q : Occurs) (k : ℕ) (v : Verdict) (f : a ≡ first) (g : markOf v ≡ secondReading q k passes) where
-  pub second-fails : (rest : Mark) → m ≡ combineReadings a (markOf v) → NotOk v → m ≡ combineReadings first (secondReading q k rest)
-  second-fails rest e t = e ∙ rw f (ap (combineReadings first) (ended rest v g t ∙ second-parts q k rest))
-
-  pub second-reads : {b rest : Mark} → m ≡ combineReadings a b → b ≡ rest → v ≡ Ok → m ≡ combineReadings first (secondReading q k rest)
-  second-reads {b} {rest} e h o = e ∙ rw f (ap (combineReadings first) (after-pass rest g o h ∙ second-parts q k rest))
+  pub second-reads : {b rest : Mark} → m ≡ combineReadings a b → b ≡ rest → v ≡ Ok → m ≡ combineReadings first (baseOnce q k andThen rest)
+  second-reads {b} {rest} e h o = e ∙ rw f (ap (combineReadings first) (after-pass rest g o h))
 
 -- The base's own pair, as the code asks it: z is what it finds of the maximum.
 pub bounded-zero : {m : MaxOccurs} {n : ℕ} → m ≡ Bounded n → eqb n 0 ≡ isZero m
 bounded-zero e = rw e
 
 module _ (q : Occurs) (k : ℕ) {z : Bool} (e : z ≡ isZero (q .max)) where
-  pub pair-zero : z ≡ true → fails 125 ≡ secondReading q k passes
+  pub pair-zero : z ≡ true → fails 125 ≡ baseOnce q k
   pair-zero t = rw (← e, t)
 
-  pub pair-required : z ≡ false → 1 < q .min → fails k ≡ secondReading q k passes
+  pub pair-required : z ≡ false → 1 < q .min → fails k ≡ baseOnce q k
   pair-required n l = rw (← e, n, lt-leb (q .min) 1 l)
 
-  pub pair-once : z ≡ false → q .min ≤ 1 → passes ≡ secondReading q k passes
+  pub pair-once : z ≡ false → q .min ≤ 1 → passes ≡ baseOnce q k
   pair-once n l = rw (← e, n, le-leb (q .min) 1 l)

@@ -15,7 +15,7 @@ ghost use Rattle.particle.specs.Runs.{Run};
 ghost use Rattle.totals.specs.Total.{total, totalOk};
 ghost use Rattle.rules.specs.Combine.{_orFails_, _andThen_, combineReadings};
 ghost use Rattle.rules.specs.Walk.{recurseOrdered, alternatives, eachMember};
-ghost use Rattle.rules.specs.Rule.{timesCount, secondReading};
+ghost use Rattle.rules.specs.Rule.{timesCount, baseOnce};
 ghost use Rattle.verdicts.specs.Reasons.{reasonNumber, markOf};
 ghost use Rattle.restriction.specs.Views.{asOnce, eachOnce, asAny, judge, rangeReason};
 use pairs::base_once;
@@ -244,7 +244,7 @@ fn element_sequence(
     requires { ⌜ Run 1 (now d) ⌝ }
     requires { ⌜ Run bn (now bs) ⌝ }
     requires { ⌜ (once ≡ true → p ≡ exactly 1) ⌝ }
-    ensures { λ r. ⌜ markOf r ≡ combineReadings (rangeOk p q orFails 105 andThen recurseOrdered (judge (now (leaves .entry)) (now (tables .entry)) n) false (eachOnce true (row 1 (now (d .entry)))) (row bn (now (bs .entry)))) (secondReading q 110 (recurseOrdered (judge (now (leaves .entry)) (now (tables .entry)) n) false (eachOnce once (row 1 (now (d .entry)))) (row bn (now (bs .entry))))) ⌝ }
+    ensures { λ r. ⌜ markOf r ≡ combineReadings (rangeOk p q orFails 105 andThen recurseOrdered (judge (now (leaves .entry)) (now (tables .entry)) n) false (eachOnce true (row 1 (now (d .entry)))) (row bn (now (bs .entry)))) (baseOnce q 110 andThen recurseOrdered (judge (now (leaves .entry)) (now (tables .entry)) n) false (eachOnce once (row 1 (now (d .entry)))) (row bn (now (bs .entry)))) ⌝ }
 {
     let wrapped = same_kind(d, 1, true, p, bs, bn, q, false, leaves, tables, n);
     if once {
@@ -277,7 +277,7 @@ fn element_choice(
     requires { ⌜ Run 1 (now d) ⌝ }
     requires { ⌜ Run bn (now bs) ⌝ }
     requires { ⌜ (once ≡ true → p ≡ exactly 1) ⌝ }
-    ensures { λ r. ⌜ markOf r ≡ combineReadings (rangeOk p q orFails 106 andThen recurseOrdered (judge (now (leaves .entry)) (now (tables .entry)) n) true (eachOnce true (row 1 (now (d .entry)))) (row bn (now (bs .entry)))) (secondReading q 112 (alternatives (judge (now (leaves .entry)) (now (tables .entry)) n) 111 (asOnce once (tree (now (d .entry)))) (row bn (now (bs .entry))))) ⌝ }
+    ensures { λ r. ⌜ markOf r ≡ combineReadings (rangeOk p q orFails 106 andThen recurseOrdered (judge (now (leaves .entry)) (now (tables .entry)) n) true (eachOnce true (row 1 (now (d .entry)))) (row bn (now (bs .entry)))) (baseOnce q 112 andThen alternatives (judge (now (leaves .entry)) (now (tables .entry)) n) 111 (asOnce once (tree (now (d .entry)))) (row bn (now (bs .entry)))) ⌝ }
 {
     if once {
         if !particle::range_ok(p, q) {

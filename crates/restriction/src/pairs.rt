@@ -5,8 +5,7 @@ ghost use Rattle.particle.specs.Occurs.{exactly, isZero};
 ghost use Rattle.particle.specs.Tree.{headOf, pairOf};
 ghost use Rattle.particle.specs.Encode.{kindNumber};
 ghost use Rattle.totals.specs.Total.{cutMax};
-ghost use Rattle.rules.specs.Verdicts.{passes};
-ghost use Rattle.rules.specs.Rule.{timesCountMax, timesCount, secondReading};
+ghost use Rattle.rules.specs.Rule.{timesCountMax, timesCount, baseOnce};
 ghost use Rattle.verdicts.specs.Reasons.{reasonNumber, markOf};
 ghost use Rattle.restriction.specs.Views.{onceHead, anyHead};
 use particle::MaxOccurs;
@@ -74,7 +73,7 @@ fn is_zero(m: MaxOccurs) -> bool
 
 // What the second reading of an element asks of the base group's own pair: a maximum that is not 0, and a minimum of at most 1.
 pub fn base_once(q: Occurs, required: Reason) -> Verdict
-    ensures { λ r. ⌜ markOf r ≡ secondReading q (reasonNumber required) passes ⌝ }
+    ensures { λ r. ⌜ markOf r ≡ baseOnce q (reasonNumber required) ⌝ }
 {
     let qmax = q.max;
     if is_zero(qmax) {

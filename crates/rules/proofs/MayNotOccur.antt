@@ -13,7 +13,7 @@ use Rattle.particle.specs.Tree.{Head, element, sequence, choice, Items, none, i
 use Rattle.rules.specs.Verdicts.{Mark, passes, undecided, fails, Leaves, Tables}
 use Rattle.rules.specs.Combine.{_orFails_, _andThen_, combineReadings}
 use Rattle.rules.specs.Walk.{_⟦_⟧}
-use Rattle.rules.specs.Rule.{secondReading, rule}
+use Rattle.rules.specs.Rule.{baseOnce, rule}
 use Rattle.rules.specs.Mark.{restrict, markTidied}
 use Rattle.rules.proofs.Unfolds.{mark-unfolds}
 
@@ -27,10 +27,10 @@ reason-hidden (fails q) r s = refl
 
 -- Asked after the base minimum, the clause gives the same mark: no sheet tells the two apart.
 pub clause-order : (m : Mark) (q : Occurs) (k : ℕ) (items : Mark)
-    → combineReadings m (secondReading q k items) ≡ combineReadings m (leb (q .min) 1 orFails k andThen not (isZero (q .max)) orFails 125 andThen items)
+    → combineReadings m (baseOnce q k andThen items) ≡ combineReadings m (leb (q .min) 1 orFails k andThen not (isZero (q .max)) orFails 125 andThen items)
 clause-order m q k items = go (leb (q .min) 1) (not (isZero (q .max)))
   where
-    go : (low some : Bool) → combineReadings m (some orFails 125 andThen low orFails k andThen items) ≡ combineReadings m (low orFails k andThen some orFails 125 andThen items)
+    go : (low some : Bool) → combineReadings m ((some orFails 125 andThen low orFails k) andThen items) ≡ combineReadings m (low orFails k andThen some orFails 125 andThen items)
     go true true = refl
     go true false = refl
     go false true = refl

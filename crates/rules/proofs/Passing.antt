@@ -40,6 +40,11 @@ or-passes (fails r) n t = inr t
 pub readings-pass : (m n : Mark) → Passes (combineReadings m n) → Passes m ⊎ Passes n
 readings-pass m n t = ⊎-elim inr inl (or-passes n m (rw (readings-or m n) at t))
 
+-- a test
+pub test-passes : (c : Bool) (r : ℕ) → Passes (c orFails r) → c ≡ true
+test-passes true r t = refl
+test-passes false r t = absurd t
+
 -- a test, and then a mark
 pub guard-passes : (c : Bool) (r : ℕ) (n : Mark) → Passes (c orFails r andThen n) → (c ≡ true) × Passes n
 guard-passes true r n t = (refl, t)
@@ -58,11 +63,7 @@ step-passes (fails r) a b true t = inr (refl, t)
 step-passes (fails r) a b false t = absurd t
 
 pub max-passes : (a b : MaxOccurs) → Passes (maxRestrict a b) → maxOk a b ≡ true
-max-passes (Bounded a) (Bounded b) t = go (leb a b) t
-  where
-    go : (c : Bool) → Passes (c orFails 124) → c ≡ true
-    go true t = refl
-    go false t = absurd t
+max-passes (Bounded a) (Bounded b) t = test-passes (leb a b) 124 t
 max-passes (Bounded a) Unbounded t = refl
 max-passes Unbounded (Bounded b) t = absurd t
 max-passes Unbounded Unbounded t = refl

@@ -1,10 +1,10 @@
 -- The rule keeps the order of marks: where the marks of items and wrapped groups settle, and the verdicts do, so does the rule's mark. Only pairs of less weight are asked for, and what holds of the derived tree's heads holds of theirs. Assumes nothing.
-use mathlib.Core.Bool.{Bool, true, false, not, _&&_, _||_}
+use mathlib.Core.Bool.{Bool, true, false, _&&_, _||_}
 use Prim.Native.Nat.{ℕ, suc, _+_, _*_, _≤_, _<_}
 use native.Mathlib.Omega.{arith}
 use lib.Dec.{leb}
 use Rattle.particle.specs.declared.Occurs.{Occurs}
-use Rattle.particle.specs.Occurs.{rangeOk, exactly, isZero}
+use Rattle.particle.specs.Occurs.{rangeOk, exactly}
 use Rattle.particle.specs.Tree.{Head, element, wildcard, sequence, choice, all, Items, none, item, Particle, sizeI, countI}
 use Rattle.totals.specs.Empty.{emptiable}
 use Rattle.totals.specs.Total.{total, totalOk}
@@ -13,7 +13,7 @@ use Rattle.rules.specs.Verdicts.{Mark, fails, Leaves, Tables}
 use Rattle.rules.specs.Combine.{_orFails_, _andThen_}
 use Rattle.rules.specs.Element.{maxRestrict, elementRestrict}
 use Rattle.rules.specs.Walk.{_⟦_⟧, Judge, recurseOrdered, alternatives, eachMember, Found, absent, found, takeNamed, recurseUnordered}
-use Rattle.rules.specs.Rule.{anyNumber, timesCount, secondReading, groupWildcard, rule}
+use Rattle.rules.specs.Rule.{anyNumber, timesCount, baseOnce, groupWildcard, rule}
 use Rattle.rules.proofs.Settles.{_⊑_, stays, and-settles, or-settles, readings-settle, step-settles}
 
 -- Weights: every mark that an entry of the rule asks for is of less weight than the entry ---------------------------------
@@ -49,8 +49,8 @@ pub record Kept (Q : Head → Type 0) : Type 0 where
 guarded : (c : Bool) (r : ℕ) {n n′ : Mark} → n ⊑ n′ → c orFails r andThen n ⊑ c orFails r andThen n′
 guarded c r = and-settles {m = c orFails r} stays
 
-second-settles : (q : Occurs) (k : ℕ) {n n′ : Mark} → n ⊑ n′ → secondReading q k n ⊑ secondReading q k n′
-second-settles q k s = guarded (not (isZero (q .max))) 125 (guarded (leb (q .min) 1) k s)
+second-settles : (q : Occurs) (k : ℕ) {n n′ : Mark} → n ⊑ n′ → baseOnce q k andThen n ⊑ baseOnce q k andThen n′
+second-settles q k = and-settles {m = baseOnce q k} stays
 
 -- each verdict of T settles to that of T′
 pub record TablesSettle (T T′ : Tables) : Type 0 where

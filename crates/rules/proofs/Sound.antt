@@ -30,10 +30,10 @@ use Rattle.tidying.proofs.Premises.{item-some}
 use Rattle.rules.specs.Verdicts.{Mark, Leaves, Tables}
 use Rattle.rules.specs.Combine.{_orFails_, _andThen_}
 use Rattle.rules.specs.Walk.{_⟦_⟧, Judge, recurseOrdered, alternatives, eachMember, recurseUnordered}
-use Rattle.rules.specs.Rule.{anyNumber, timesCountMax, exactTimesCount, timesCount, secondReading, groupWildcard, rule}
+use Rattle.rules.specs.Rule.{anyNumber, timesCountMax, exactTimesCount, timesCount, baseOnce, groupWildcard, rule}
 use Rattle.rules.specs.Mark.{steps, restrictTo, restrict}
 use Rattle.rules.specs.Demand.{NamesAmong}
-use Rattle.rules.proofs.Passing.{Passes, guard-passes, readings-pass}
+use Rattle.rules.proofs.Passing.{Passes, and-passes, test-passes, guard-passes, readings-pass}
 use Rattle.rules.proofs.SoundElements.{Known, each, wildcard-names, element-sound, unordered-sound, in-order-any}
 use Rattle.rules.proofs.SoundWalk.{Regular, Sound, walk-in-order, walk-one-of, alternatives-sound, each-sound}
 
@@ -44,11 +44,11 @@ one-most (Bounded (suc m)) n = omega arith
 one-most Unbounded n = tt
 
 -- where the second reading passes, the base allows one round
-second-passes : (q : Occurs) (k : ℕ) (m : Mark) → Passes (secondReading q k m) → (q .min ≤ 1) × AtMost 1 (q .max) × Passes m
+second-passes : (q : Occurs) (k : ℕ) (m : Mark) → Passes (baseOnce q k andThen m) → (q .min ≤ 1) × AtMost 1 (q .max) × Passes m
 second-passes q k m t =
-    let (z, s) = guard-passes (not (isZero (q .max))) 125 (leb (q .min) 1 orFails k andThen m) t in
-    let (h, u) = guard-passes (leb (q .min) 1) k m s in
-    (leb-true (q .min) 1 h, one-most (q .max) z, u)
+    let (s, u) = and-passes (baseOnce q k) m t in
+    let (z, h) = guard-passes (not (isZero (q .max))) 125 (leb (q .min) 1 orFails k) s in
+    (leb-true (q .min) 1 (test-passes (leb (q .min) 1) k h), one-most (q .max) z, u)
 
 -- as many names as the word is long, and its length within a pair within q
 names-in-range : (S : ℕ → Type 0) (t q : Occurs) → rangeOk t q ≡ true → (w : List ℕ) → Within (length w) t → Rounds anyNumber (Name S) w → Rounds q (Name S) w
@@ -132,7 +132,7 @@ module _ (L : Leaves) (T : Tables) (derived base : Names) (N : NamesAmong L T de
         (λ s. S wrapped (sequence q ⟦ bi ⟧) (tt, ((K, ks), tt)) (R, rs) s w (moved-to-sequence derived l p di w x))
         (λ s. let (least, most, s′) = second-passes q 110 (recurseOrdered J false own bi) s in
         one-round least most w (walk-in-order L derived base J S own bi ((K, ks), tt) rs s′ w (unfold fold in in-order-one w .1 x)))
-        (readings-pass (J wrapped (sequence q ⟦ bi ⟧)) (secondReading q 110 (recurseOrdered J false own bi)) t)
+        (readings-pass (J wrapped (sequence q ⟦ bi ⟧)) (baseOnce q 110 andThen recurseOrdered J false own bi) t)
     rule-sound (element l p) di (choice q) bi (K, ks) (R, rs) t =
         let wrapped = choice p ⟦ item (element l (exactly 1)) di none ⟧ in
         let own = element l p ⟦ di ⟧ in
@@ -140,7 +140,7 @@ module _ (L : Leaves) (T : Tables) (derived base : Names) (N : NamesAmong L T de
         (λ s. S wrapped (choice q ⟦ bi ⟧) (tt, ((K, ks), tt)) (R, rs) s w (moved-to-choice derived l p di w x))
         (λ s. let (least, most, s′) = second-passes q 112 (alternatives J 111 own bi) s in
         one-round least most w (alternatives-sound L derived base J S 111 own bi (K, ks) rs s′ w x))
-        (readings-pass (J wrapped (choice q ⟦ bi ⟧)) (secondReading q 112 (alternatives J 111 own bi)) t)
+        (readings-pass (J wrapped (choice q ⟦ bi ⟧)) (baseOnce q 112 andThen alternatives J 111 own bi) t)
     rule-sound (element l p) di (all q) bi ks rs t = absurd t
     rule-sound (wildcard l p) di (element m q) bi ks rs t = absurd t
     rule-sound (wildcard l p) di (wildcard m q) bi ((k, e), ks) (R, rs) t =

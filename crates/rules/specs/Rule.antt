@@ -29,10 +29,9 @@ exactTimesCount p n = record { min = p .min * n; max = timesCountMax (p .max) n 
 abbrev pub timesCount : Occurs → ℕ → TotalRange
 timesCount p n = cut (exactTimesCount p n)
 
--- The second reading of an element against a sequence or choice of pair q: 'a base maximum of 0 now fails with reason 125' (document 02 §5); base minimum above 1
--- gives 110 or 112; otherwise what the base's items say of the element.
-abbrev pub secondReading : (q : Occurs) (required : ℕ) (items : Mark) → Mark
-secondReading q required items = not (isZero (q .max)) orFails 125 andThen leb (q .min) 1 orFails required andThen items
+-- What the second reading of an element asks of the pair of a base sequence or choice: 'a base maximum of 0 now fails with reason 125' (document 02 §5), base minimum above 1 gives 110 or 112.
+abbrev pub baseOnce : (q : Occurs) (required : ℕ) → Mark
+baseOnce q required = not (isZero (q .max)) orFails 125 andThen leb (q .min) 1 orFails required
 
 -- One entry of the rule (`restrict` of the Rust): a derived tree of head d and items di against a base tree of head b and items bi.
 -- J marks what is below: items, and the groups in which an element is wrapped. The comments are document 01's list, and document 02 §5.
@@ -62,10 +61,10 @@ module _ (L : Leaves) (T : Tables) (J : Judge) where
   -- Second reading: base maximum 0 gives 125 (document 02 §5); base minimum above 1 gives 110 (sequence) or 112 (choice); otherwise the ordered walk over the one element, or any alternative (none 111).
   rule (element l p) di (sequence q) bi =
       combineReadings (J (sequence p ⟦ item (element l (exactly 1)) di none ⟧) (sequence q ⟦ bi ⟧))
-      (secondReading q 110 (recurseOrdered J false (item (element l p) di none) bi))
+      (baseOnce q 110 andThen recurseOrdered J false (item (element l p) di none) bi)
   rule (element l p) di (choice q) bi =
       combineReadings (J (choice p ⟦ item (element l (exactly 1)) di none ⟧) (choice q ⟦ bi ⟧))
-      (secondReading q 112 (alternatives J 111 (element l p ⟦ di ⟧) bi))
+      (baseOnce q 112 andThen alternatives J 111 (element l p ⟦ di ⟧) bi)
   -- Sequence or choice, element: the base wrapped as one item of a (1,1) group of the derived kind.
   rule (sequence p) di (element m q) bi = J (sequence p ⟦ di ⟧) (sequence (exactly 1) ⟦ item (element m q) bi none ⟧)
   rule (choice p) di (element m q) bi = J (choice p ⟦ di ⟧) (choice (exactly 1) ⟦ item (element m q) bi none ⟧)
