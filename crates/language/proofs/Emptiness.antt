@@ -14,6 +14,7 @@ use Rattle.totals.specs.Empty.{every, some, isEmpty, optional, emptiableFrom, e
 use Rattle.language.specs.Language.{Words, InOrder, OneOf, Inserted, here, later, Blocks, joined, AnyOrder, AtMost, Rounds, Name, Names, wordsFrom, Allows}
 use Rattle.language.specs.Premises.{Every, Throughout, Ordered, NoEmptyChoice}
 use Rattle.language.proofs.Rounds.{Many, no-round, empty-rounds, names-length}
+use Rattle.language.proofs.Wider.{widerFrom, Wider, wider-same}
 
 -- Emptiable trees allow the empty word --------------------------------------------
 
@@ -43,34 +44,37 @@ group-gives p W c o f t = ⊎-elim (λ z. no-round (eqb-true (p .min) 0 z)) (λ 
 
 module _ (names : Names) where
   -- a record of minimum 0 has no round
-  pub optional-allows : (h : Head) (Ws : List Words) → optional (pairOf h) ≡ true → wordsFrom names h Ws []
-  optional-allows (element l p) Ws t = no-round (eqb-true (p .min) 0 t)
-  optional-allows (wildcard l p) Ws t = no-round (eqb-true (p .min) 0 t)
-  optional-allows (sequence p) Ws t = no-round (eqb-true (p .min) 0 t)
-  optional-allows (choice p) Ws t = no-round (eqb-true (p .min) 0 t)
-  optional-allows (all p) Ws t = no-round (eqb-true (p .min) 0 t)
+  pub optional-wider : (h : Head) (Ws : List Words) → optional (pairOf h) ≡ true → widerFrom names h Ws []
+  optional-wider (element l p) Ws t = no-round (eqb-true (p .min) 0 t)
+  optional-wider (wildcard l p) Ws t = no-round (eqb-true (p .min) 0 t)
+  optional-wider (sequence p) Ws t = no-round (eqb-true (p .min) 0 t)
+  optional-wider (choice p) Ws t = no-round (eqb-true (p .min) 0 t)
+  optional-wider (all p) Ws t = no-round (eqb-true (p .min) 0 t)
 
   -- the words of each item
   abbrev each : Items → List Words
-  each k = fold (wordsFrom names) k
+  each k = fold (widerFrom names) k
 
-  record-gives : (h : Head) (k : Items) → Ordered h k → NoEmptyChoice h k → Matches Gives (each k) (fold emptiableFrom k) → Gives (wordsFrom names h (each k)) (emptiableFrom h (fold emptiableFrom k))
+  record-gives : (h : Head) (k : Items) → Ordered h k → Matches Gives (each k) (fold emptiableFrom k) → Gives (widerFrom names h (each k)) (emptiableFrom h (fold emptiableFrom k))
   unfolding fold
-  record-gives (element l p) k o n m = optional-allows (element l p) (each k)
-  record-gives (wildcard l p) k o n m = optional-allows (wildcard l p) (each k)
-  record-gives (sequence p) k o n m = group-gives p (InOrder (each k)) (every (fold emptiableFrom k)) o (every-gives m)
-  record-gives (choice p) none o n m = absurd (n refl)
-  record-gives (choice p) (item h k r) o n m = group-gives p (OneOf (each (item h k r))) (some (fold emptiableFrom (item h k r))) o (some-gives m)
-  record-gives (all p) k o n m = group-gives p (AnyOrder (each k)) (every (fold emptiableFrom k)) o (blocks-give m)
+  record-gives (element l p) k o m = optional-wider (element l p) (each k)
+  record-gives (wildcard l p) k o m = optional-wider (wildcard l p) (each k)
+  record-gives (sequence p) k o m = group-gives p (InOrder (each k)) (every (fold emptiableFrom k)) o (every-gives m)
+  record-gives (choice p) none o m = λ t. empty-rounds o refl
+  record-gives (choice p) (item h k r) o m = group-gives p (OneOf (each (item h k r))) (some (fold emptiableFrom (item h k r))) o (some-gives m)
+  record-gives (all p) k o m = group-gives p (AnyOrder (each k)) (every (fold emptiableFrom k)) o (blocks-give m)
 
-  items-give : (k : Items) → Every Ordered k → Every NoEmptyChoice k → Matches Gives (each k) (fold emptiableFrom k)
+  items-give : (k : Items) → Every Ordered k → Matches Gives (each k) (fold emptiableFrom k)
   unfolding fold
-  items-give none os ns = ended
-  items-give (item h k r) ((o, os), os′) ((n, ns), ns′) = next (record-gives h k o n (items-give k os ns)) (items-give r os′ ns′)
+  items-give none os = ended
+  items-give (item h k r) ((o, os), os′) = next (record-gives h k o (items-give k os)) (items-give r os′)
+
+  pub emptiable-wider : (x : Particle) → Throughout Ordered x → emptiable x ≡ true → Wider names x []
+  unfolding emptiable Wider
+  emptiable-wider x (o, os) = record-gives (x .head) (x .items) o (items-give (x .items) os)
 
   pub emptiable-allows : (x : Particle) → Throughout Ordered x → Throughout NoEmptyChoice x → emptiable x ≡ true → Allows names x []
-  unfolding emptiable Allows
-  emptiable-allows x (o, os) (n, ns) = record-gives (x .head) (x .items) o n (items-give (x .items) os ns)
+  emptiable-allows x os ns t = subst (λ (W : Words). W []) (wider-same names x ns) (emptiable-wider x os t)
 
 -- Trees that allow the empty word are emptiable --------------------------------------
 

@@ -3,6 +3,7 @@ pub mod Words
 pub mod Rounds
 pub mod Joining
 pub mod Premises
+pub mod Wider
 pub mod Emptiness
 pub mod Lengths
 pub mod Examples

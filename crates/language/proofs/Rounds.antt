@@ -50,11 +50,12 @@ rounds-mono {p} {q} t f w r =
       rounds = many-mono (r .number) f w (r .rounds);
     }
 
+-- each round within X
+pub rounds-each : {p : Occurs} {W X : Words} → W ⊆ X → Rounds p W ⊆ Rounds p X
+rounds-each f w r = record { number = r .number; least = r .least; most = r .most; rounds = many-mono (r .number) f w (r .rounds) }
+
 pub rounds-same : {p : Occurs} {W X : Words} → W ≐ X → Rounds p W ≐ Rounds p X
-rounds-same e w = (
-  λ r. record { number = r .number; least = r .least; most = r .most; rounds = many-mono (r .number) (λ u. e u .0) w (r .rounds) },
-  λ r. record { number = r .number; least = r .least; most = r .most; rounds = many-mono (r .number) (λ u. e u .1) w (r .rounds) },
-)
+rounds-same e w = (rounds-each (λ u. e u .0) w, rounds-each (λ u. e u .1) w)
 
 -- no round, where the minimum is 0
 pub no-round : {p : Occurs} {W : Words} → p .min ≡ 0 → Rounds p W []

@@ -16,8 +16,9 @@ use Rattle.particle.specs.Tree.{Particle, pairOf, headFrom, headOf, tree}
 use Rattle.particle.proofs.Heads.{pair-record}
 use Rattle.particle.proofs.Tests.{and-true}
 use Rattle.language.specs.Language.{AtMost}
-use Rattle.rules.specs.Demand.{LeafKnown, Supposed}
-use Rattle.rules.proofs.Inclusion.{passes-includes}
+use Rattle.language.specs.Premises.{BelowRoot, Throughout, Ordered, NoZeroMaximum, NoEmptyChoice}
+use Rattle.rules.specs.Demand.{LeafKnown, NeededDerived, NeededBase}
+use Rattle.rules.proofs.Inclusion.{needed-includes}
 use Rattle.intake.specs.declared.Checked.the-variants.{Accepted}
 use Rattle.intake.specs.Faults.{leafOk, faultOf}
 use Rattle.intake.specs.Scan.{refusalIn}
@@ -90,24 +91,27 @@ module _ {s : List ℕ} (a : Passed s) where
   record-ordered : (r : Record) (depth : ℕ) (inAll : Bool) → faultOf (knownIn s) r depth inAll ≡ Accepted → AtMost (pairOf (headOf r) .min) (pairOf (headOf r) .max)
   record-ordered r depth inAll e = rw (pair-record r) (in-order (r .unbounded) (r .min) (r .max) (clean (knownIn s) r depth inAll e .pair))
 
-  supposed : (t : List ℕ) → refusalIn (knownIn s) t ≡ Accepted → Plain (tree t) → Supposed (sheetLeaves s) (tree t)
-  supposed t e p = record {
-    leavesKnown = accepted-throughout (knownIn s) (LeafKnown (sheetLeaves s)) record-known t e;
-    ordered = accepted-throughout (knownIn s) (λ h. AtMost (pairOf h .min) (pairOf h .max)) record-ordered t e;
-    noEmptyChoice = p .noEmptyChoice;
-    noZeroBelow = p .noZeroBelow;
-  }
+  all-known : (t : List ℕ) → refusalIn (knownIn s) t ≡ Accepted → Throughout (λ h k. LeafKnown (sheetLeaves s) h) (tree t)
+  all-known = accepted-throughout (knownIn s) (LeafKnown (sheetLeaves s)) record-known
 
-pub sheet-pass-includes : SheetPassIncludes Plain
+  all-ordered : (t : List ℕ) → refusalIn (knownIn s) t ≡ Accepted → Throughout Ordered (tree t)
+  all-ordered = accepted-throughout (knownIn s) (λ h. AtMost (pairOf h .min) (pairOf h .max)) record-ordered
+
+-- of the derived tree no zero maximum below the root is needed, of the base tree no empty choice
+pub sheet-needed-includes : SheetPassIncludes (BelowRoot NoZeroMaximum) (Throughout NoEmptyChoice)
 unfolding markSheet markOfSheet
-sheet-pass-includes s e pd pb derived base among w x =
+sheet-needed-includes s e z n derived base among =
     let given = answer-gives _ (markOfSheet s) e in
     let a = passed s (given .0) in
-    passes-includes (sheetLeaves s) (sheetTables s) derived base among (derivedTree s) (baseTree s)
-    (supposed a (derivedPart s) (a .derived) pd) (supposed a (basePart s) (a .base) pb) (given .1) w x
+    let d : NeededDerived (sheetLeaves s) (derivedTree s) = record { leavesKnown = all-known a (derivedPart s) (a .derived); noZeroBelow = z } in
+    let b : NeededBase (sheetLeaves s) (baseTree s) = record { leavesKnown = all-known a (basePart s) (a .base); ordered = all-ordered a (basePart s) (a .base); noEmptyChoice = n } in
+    needed-includes (sheetLeaves s) (sheetTables s) derived base among (derivedTree s) (baseTree s) d b (given .1)
+
+pub sheet-pass-includes : SheetPassIncludes Plain Plain
+sheet-pass-includes s e pd pb = sheet-needed-includes s e (pd .noZeroBelow) (pb .noEmptyChoice)
 
 -- under document 01's premise, which is more
-pub sheet-pass-includes-01 : SheetPassIncludes NoZeroMaxima
+pub sheet-pass-includes-01 : SheetPassIncludes NoZeroMaxima NoZeroMaxima
 sheet-pass-includes-01 s e pd pb =
     let plain : (x : Particle) → NoZeroMaxima x → Plain x = λ x p. record { noEmptyChoice = p .noEmptyChoice; noZeroBelow = p .noZeroMaximum .1 } in
     sheet-pass-includes s e (plain (derivedTree s) pd) (plain (baseTree s) pb)

@@ -48,9 +48,9 @@ pub record NoZeroMaxima (x : Particle) : Type 0 where
   pub noEmptyChoice : Throughout NoEmptyChoice x
   pub noZeroMaximum : Throughout NoZeroMaximum x
 
--- Of trees as supposed: where a sheet passes, every sequence of names that its derived tree allows is allowed by its base tree, whatever sets of names its leaves have as derived and as base,
+-- Of a derived tree as D says and a base tree as B says: where a sheet passes, every sequence of names that its derived tree allows is allowed by its base tree, whatever sets of names its leaves have as derived and as base,
 -- if for each two leaves whose verdicts are all ok the derived leaf's names are among the base leaf's.
-abbrev pub SheetPassIncludes : (supposed : Particle → Type 0) → Type 1
-SheetPassIncludes supposed = (s : List ℕ) → markSheet s ≡ gives passes → supposed (derivedTree s) → supposed (baseTree s)
+abbrev pub SheetPassIncludes : (D B : Particle → Type 0) → Type 1
+SheetPassIncludes D B = (s : List ℕ) → markSheet s ≡ gives passes → D (derivedTree s) → B (baseTree s)
     → (derived base : Names) → NamesAmong (sheetLeaves s) (sheetTables s) derived base
     → (w : List ℕ) → Allows derived (derivedTree s) w → Allows base (baseTree s) w

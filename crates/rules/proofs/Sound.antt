@@ -1,4 +1,4 @@
--- Demand 3, second half, for the rule: where it passes, the derived tree allows no more than the base, if that holds of the items and wrapped groups that it asks for. So it holds of the mark. Assumes nothing.
+-- Demand 3, second half, for the rule: where it passes, the derived tree allows no more than the base as the rules take it, an empty choice having an empty round, if that holds of the items and wrapped groups that it asks for. So it holds of the mark. Assumes nothing.
 use mathlib.Core.Bool.{true, false, not, false≢true}
 use mathlib.Core.List.{List}
 use mathlib.Core.Logic.{inl, ⊎-elim}
@@ -23,10 +23,10 @@ use Rattle.language.specs.Premises.{Every, Throughout}
 use Rattle.language.proofs.AtMost.{at-most}
 use Rattle.language.proofs.Words.{_⊆_, in-order-one, one-of-one}
 use Rattle.language.proofs.Premises.{every-map}
-use Rattle.language.proofs.Rounds.{Many, many-mono, many-many, rounds-mono, one-round, only-round, names-length}
+use Rattle.language.proofs.Rounds.{Many, many-many, rounds-mono, rounds-each, one-round, only-round, names-length}
+use Rattle.language.proofs.Wider.{one-or-none, widerFrom, Wider}
 use Rattle.language.proofs.Joining.{AllWithin, one-of-within, in-order-many, in-order-within, rounds-within, any-order-within, names-closed}
 use Rattle.language.proofs.Lengths.{Within, exact-length}
-use Rattle.tidying.proofs.Premises.{item-some}
 use Rattle.rules.specs.Verdicts.{Mark, Leaves, Tables}
 use Rattle.rules.specs.Combine.{_orFails_, _andThen_}
 use Rattle.rules.specs.Walk.{_⟦_⟧, Judge, recurseOrdered, alternatives, eachMember, recurseUnordered}
@@ -34,7 +34,7 @@ use Rattle.rules.specs.Rule.{anyNumber, timesCountMax, exactTimesCount, 
 use Rattle.rules.specs.Mark.{steps, restrictTo, restrict}
 use Rattle.rules.specs.Demand.{NamesAmong}
 use Rattle.rules.proofs.Passing.{Passes, and-passes, test-passes, guard-passes, readings-pass}
-use Rattle.rules.proofs.SoundElements.{Known, each, wildcard-names, element-sound, unordered-sound, in-order-any}
+use Rattle.rules.proofs.SoundElements.{Known, each, eachWider, wildcard-names, element-sound, unordered-sound, in-order-any}
 use Rattle.rules.proofs.SoundWalk.{Regular, Sound, walk-in-order, walk-one-of, alternatives-sound, each-sound}
 
 -- a maximum that is not 0 allows a round
@@ -81,10 +81,6 @@ unfolding fold countI
 each-length names none = refl
 each-length names (item h k r) = ap suc (each-length names r)
 
--- each round within X
-rounds-each : {p : Occurs} {W X : Words} → W ⊆ X → Rounds p W ⊆ Rounds p X
-rounds-each f w r = record { number = r .number; least = r .least; most = r .most; rounds = many-mono (r .number) f w (r .rounds) }
-
 -- Wrapped groups: an element is a group of its pair that holds it once, and a (1,1) group that holds it as it is.
 module _ (names : Names) (l : ℕ) (p : Occurs) (k : Items) where
   moved-to-sequence : Allows names (element l p ⟦ k ⟧) ⊆ Allows names (sequence p ⟦ item (element l (exactly 1)) k none ⟧)
@@ -95,12 +91,12 @@ module _ (names : Names) (l : ℕ) (p : Occurs) (k : Items) where
   unfolding Allows fold
   moved-to-choice = rounds-each (λ u x. inl (one-round (omega arith) (omega arith) u x))
 
-  out-of-sequence : Allows names (sequence (exactly 1) ⟦ item (element l p) k none ⟧) ⊆ Allows names (element l p ⟦ k ⟧)
-  unfolding Allows fold
+  out-of-sequence : Wider names (sequence (exactly 1) ⟦ item (element l p) k none ⟧) ⊆ Wider names (element l p ⟦ k ⟧)
+  unfolding Wider fold
   out-of-sequence w x = in-order-one w .0 (only-round refl w x)
 
-  out-of-choice : Allows names (choice (exactly 1) ⟦ item (element l p) k none ⟧) ⊆ Allows names (element l p ⟦ k ⟧)
-  unfolding Allows fold
+  out-of-choice : Wider names (choice (exactly 1) ⟦ item (element l p) k none ⟧) ⊆ Wider names (element l p ⟦ k ⟧)
+  unfolding Wider fold
   out-of-choice w x = one-of-one (Rounds p (Name (names l))) w .0 (only-round refl w x)
 
 -- One entry of the rule ---------------------------------------------------------------------------------------------------
@@ -110,17 +106,17 @@ module _ (L : Leaves) (T : Tables) (derived base : Names) (N : NamesAmong L T de
     -- a group against a wildcard, where whatever holds each member holds the group
     group-sound : (d : Head) (di : Items) (m : ℕ) (q : Occurs) (bi : Items) → Every (Known L) di → Throughout (Regular L) (wildcard m q ⟦ bi ⟧) → Passes (groupWildcard L T J d di m q bi)
         → (AllWithin (each derived di) (Rounds anyNumber (Name (base m))) → Allows derived (d ⟦ di ⟧) ⊆ Rounds anyNumber (Name (base m)))
-        → Allows derived (d ⟦ di ⟧) ⊆ Allows base (wildcard m q ⟦ bi ⟧)
-    unfolding Allows total
+        → Allows derived (d ⟦ di ⟧) ⊆ Wider base (wildcard m q ⟦ bi ⟧)
+    unfolding Allows Wider total
     group-sound d di m q bi ks (R, rs) t f w x =
-        let R′ : Regular L (wildcard m anyNumber) bi = record { known = R .known; ordered = tt; nonempty = tt } in
+        let R′ : Regular L (wildcard m anyNumber) bi = record { known = R .known; ordered = tt } in
         let member : Particle → Mark = λ y. J y (wildcard m anyNumber ⟦ bi ⟧) in
         let (h, s) = guard-passes (totalOk (total (d ⟦ di ⟧)) q) 113 (eachMember member di) t in
         let inside = each-sound L derived base member (Rounds anyNumber (Name (base m))) (λ y K s. S y (wildcard m anyNumber ⟦ bi ⟧) K (R′, rs) s) di ks s in
         names-in-range (base m) (exactTotal (d ⟦ di ⟧)) q (ok-exact (exactTotal (d ⟦ di ⟧)) q h) w (exact-length derived (d ⟦ di ⟧) w x) (f inside w x)
 
-    pub rule-sound : (d : Head) (di : Items) (b : Head) (bi : Items) → Throughout (Known L) (d ⟦ di ⟧) → Throughout (Regular L) (b ⟦ bi ⟧) → Passes (rule L T J d di b bi) → Allows derived (d ⟦ di ⟧) ⊆ Allows base (b ⟦ bi ⟧)
-    unfolding rule Allows
+    pub rule-sound : (d : Head) (di : Items) (b : Head) (bi : Items) → Throughout (Known L) (d ⟦ di ⟧) → Throughout (Regular L) (b ⟦ bi ⟧) → Passes (rule L T J d di b bi) → Allows derived (d ⟦ di ⟧) ⊆ Wider base (b ⟦ bi ⟧)
+    unfolding rule Allows Wider
     rule-sound (element l p) di (element m q) bi (K, ks) (R, rs) t = element-sound L T derived base N l p m q K (R .known) t
     rule-sound (element l p) di (wildcard m q) bi ((k, e), ks) (R, rs) t =
         let (h, s) = guard-passes (rangeOk p q) 101 (T .second l m) t in
@@ -139,7 +135,7 @@ module _ (L : Leaves) (T : Tables) (derived base : Names) (N : NamesAmong L T de
         λ w x. ⊎-elim
         (λ s. S wrapped (choice q ⟦ bi ⟧) (tt, ((K, ks), tt)) (R, rs) s w (moved-to-choice derived l p di w x))
         (λ s. let (least, most, s′) = second-passes q 112 (alternatives J 111 own bi) s in
-        one-round least most w (alternatives-sound L derived base J S 111 own bi (K, ks) rs s′ w x))
+        one-round least most w (one-or-none (eachWider base bi) w (alternatives-sound L derived base J S 111 own bi (K, ks) rs s′ w x)))
         (readings-pass (J wrapped (choice q ⟦ bi ⟧)) (baseOnce q 112 andThen alternatives J 111 own bi) t)
     rule-sound (element l p) di (all q) bi ks rs t = absurd t
     rule-sound (wildcard l p) di (element m q) bi ks rs t = absurd t
@@ -152,29 +148,29 @@ module _ (L : Leaves) (T : Tables) (derived base : Names) (N : NamesAmong L T de
     rule-sound (wildcard l p) di (all q) bi ks rs t = absurd t
     rule-sound (sequence p) di (element m q) bi ks (R, rs) t =
         λ w x. out-of-sequence base m q bi w
-        (S (sequence p ⟦ di ⟧) (sequence (exactly 1) ⟦ item (element m q) bi none ⟧) ks (record { known = tt; ordered = omega arith; nonempty = tt }, ((R, rs), tt)) t w x)
+        (S (sequence p ⟦ di ⟧) (sequence (exactly 1) ⟦ item (element m q) bi none ⟧) ks (record { known = tt; ordered = omega arith }, ((R, rs), tt)) t w x)
     rule-sound (sequence p) di (wildcard m q) bi (K, ks) rs t =
         group-sound (sequence p) di m q bi ks rs t (λ inside. rounds-within (names-closed (base m)) (in-order-within (names-closed (base m)) (each derived di) inside))
     rule-sound (sequence p) di (sequence q) bi (K, ks) (R, rs) t =
         let (h, s) = guard-passes (rangeOk p q) 105 (recurseOrdered J false di bi) t in
         rounds-mono h (walk-in-order L derived base J S di bi ks rs s)
     rule-sound (sequence p) di (choice q) bi (K, ks) (R, rs) t =
-        let one : Words = OneOf (each base bi) in
+        let one : Words = OneOf (eachWider base bi) in
         let (h, s) = guard-passes (totalOk (timesCount p (countI di)) q) 116 (eachMember (λ x. alternatives J 117 x bi) di) t in
         let inside = each-sound L derived base (λ x. alternatives J 117 x bi) one (λ x K s. alternatives-sound L derived base J S 117 x bi K rs s) di ks s in
-        rounds-times (countI di) h (λ w x. subst (λ (n : ℕ). Many n one w) (each-length derived di) (in-order-many (each derived di) one inside w x))
+        λ w x. rounds-each (one-or-none (eachWider base bi)) w (rounds-times (countI di) h (λ w x. subst (λ (n : ℕ). Many n one w) (each-length derived di) (in-order-many (each derived di) one inside w x)) w x)
     rule-sound (sequence p) di (all q) bi (K, ks) (R, rs) t =
         let (h, s) = guard-passes (rangeOk p q) 118 (recurseUnordered L T di bi) t in
         rounds-mono h (λ w x. unordered-sound L T derived base N di bi ks (every-map (λ h k r. r .known) bi rs) s w (in-order-any (each derived di) w x))
     rule-sound (choice p) di (element m q) bi ks (R, rs) t =
         λ w x. out-of-choice base m q bi w
-        (S (choice p ⟦ di ⟧) (choice (exactly 1) ⟦ item (element m q) bi none ⟧) ks (record { known = tt; ordered = omega arith; nonempty = item-some (element m q) bi none }, ((R, rs), tt)) t w x)
+        (S (choice p ⟦ di ⟧) (choice (exactly 1) ⟦ item (element m q) bi none ⟧) ks (record { known = tt; ordered = omega arith }, ((R, rs), tt)) t w x)
     rule-sound (choice p) di (wildcard m q) bi (K, ks) rs t =
         group-sound (choice p) di m q bi ks rs t (λ inside. rounds-within (names-closed (base m)) (one-of-within (each derived di) (Rounds anyNumber (Name (base m))) inside))
     rule-sound (choice p) di (sequence q) bi ks rs t = absurd t
     rule-sound (choice p) di (choice q) bi (K, ks) (R, rs) t =
         let (h, s) = guard-passes (rangeOk p q) 106 (recurseOrdered J true di bi) t in
-        rounds-mono h (walk-one-of L derived base J S di bi ks rs s)
+        rounds-mono h (λ w x. one-or-none (eachWider base bi) w (walk-one-of L derived base J S di bi ks rs s w x))
     rule-sound (choice p) di (all q) bi ks rs t = absurd t
     rule-sound (all p) di (element m q) bi ks rs t = absurd t
     rule-sound (all p) di (wildcard m q) bi (K, ks) rs t =

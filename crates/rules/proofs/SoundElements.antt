@@ -9,11 +9,12 @@ use Rattle.particle.specs.declared.Occurs.{Occurs}
 use Rattle.particle.specs.Tree.{Head, element, wildcard, sequence, choice, all, Items, none, item, pairOf, fold}
 use Rattle.particle.proofs.Tests.{both-true}
 use Rattle.totals.specs.Empty.{optional}
-use Rattle.language.specs.Language.{InOrder, Inserted, here, later, Blocks, joined, AnyOrder, Rounds, Name, Names, wordsFrom}
+use Rattle.language.specs.Language.{Words, InOrder, Inserted, here, later, Blocks, joined, AnyOrder, Rounds, Name, Names, wordsFrom}
 use Rattle.language.specs.Premises.{Every}
 use Rattle.language.proofs.Words.{_⊆_, swap-inserted}
 use Rattle.language.proofs.Rounds.{rounds-mono}
-use Rattle.language.proofs.Emptiness.{optional-allows}
+use Rattle.language.proofs.Wider.{widerFrom}
+use Rattle.language.proofs.Emptiness.{optional-wider}
 use Rattle.rules.specs.Verdicts.{Mark, passes, fails, Leaves, Tables}
 use Rattle.rules.specs.Combine.{_orFails_, _andThen_}
 use Rattle.rules.specs.Element.{maxRestrict, elementRestrict}
@@ -25,9 +26,12 @@ use Rattle.rules.proofs.Passing.{Passes, pass-is, and-passes, guard-pas
 abbrev pub Known : Leaves → Head → Items → Type 0
 Known L h k = LeafKnown L h
 
--- the words of each item
-abbrev pub each : Names → Items → List (List ℕ → Type 0)
+-- the words of each item; of a base item as the rules take it, where an empty choice has an empty round
+abbrev pub each : Names → Items → List Words
 each names k = fold (wordsFrom names) k
+
+abbrev pub eachWider : Names → Items → List Words
+eachWider names k = fold (widerFrom names) k
 
 -- The element that was taken ------------------------------------------------------------------------
 
@@ -101,15 +105,15 @@ module _ (L : Leaves) (T : Tables) (derived base : Names) (N : NamesAmong L T de
       rounds-mono (both-true lo (max-passes (p .max) (q .max) hi)) (element-names l m k e k′ e′ f s)
 
   -- untaken elements give empty blocks
-  untaken-blocks : (bs : Items) → Passes (untaken bs) → (n : ℕ) × Blocks (each base bs) (blanks n)
+  untaken-blocks : (bs : Items) → Passes (untaken bs) → (n : ℕ) × Blocks (eachWider base bs) (blanks n)
   unfolding untaken fold
   untaken-blocks none t = (0, refl)
   untaken-blocks (item h k r) t =
       let (e, t′) = skip-passes (optional (pairOf h)) 109 (untaken r) t in
       let (n, b) = untaken-blocks r t′ in
-      (suc n, ([], blanks n, here, optional-allows base h (each base k) e, b))
+      (suc n, ([], blanks n, here, optional-wider base h (eachWider base k) e, b))
 
-  insert-taken : {m : ℕ} {q : Occurs} {bs o : Items} {u : List ℕ} {r s : List (List ℕ)} → Taken m q bs o → Inserted u r s → Rounds q (Name (base m)) u → Blocks (each base o) r → Blocks (each base bs) s
+  insert-taken : {m : ℕ} {q : Occurs} {bs o : Items} {u : List ℕ} {r s : List (List ℕ)} → Taken m q bs o → Inserted u r s → Rounds q (Name (base m)) u → Blocks (eachWider base o) r → Blocks (eachWider base bs) s
   unfolding fold
   insert-taken {u} {r} first i x b = (u, r, i, x, b)
   insert-taken (next t) i x (y, r′, j, x′, b) =
@@ -117,7 +121,7 @@ module _ (L : Leaves) (T : Tables) (derived base : Names) (N : NamesAmong L T de
       (y, v, j′, x′, insert-taken t i′ x b)
 
   unordered-blocks : (ds bs : Items) → Every (Known L) ds → Every (Known L) bs → Passes (recurseUnordered L T ds bs)
-      → (us : List (List ℕ)) → Blocks (each derived ds) us → (n : ℕ) × Blocks (each base bs) (us ++ blanks n)
+      → (us : List (List ℕ)) → Blocks (each derived ds) us → (n : ℕ) × Blocks (eachWider base bs) (us ++ blanks n)
   unfolding recurseUnordered fold
   unordered-blocks none bs ks rs t us e =
       let (n, b) = untaken-blocks bs t in
@@ -125,9 +129,9 @@ module _ (L : Leaves) (T : Tables) (derived base : Names) (N : NamesAmong L T de
   unordered-blocks (item (element l p) k r) bs ((K, ks′), ks) rs t us (u, others, i, x, b) =
       go (takeNamed L (L .localName l) bs) (named-taken L (L .localName l) bs) (λ o os t′. unordered-blocks r o ks os t′ others b) t
     where
-      go : (f : Found) → IsTaken bs f → ((o : Items) → Every (Known L) o → Passes (recurseUnordered L T r o) → (n : ℕ) × Blocks (each base o) (others ++ blanks n))
+      go : (f : Found) → IsTaken bs f → ((o : Items) → Every (Known L) o → Passes (recurseUnordered L T r o) → (n : ℕ) × Blocks (eachWider base o) (others ++ blanks n))
           → Passes (elim f as (λ _. Mark) [ absent ↦ fails 108 | found m q o ↦ elementRestrict T l p m q andThen recurseUnordered L T r o ])
-          → (n : ℕ) × Blocks (each base bs) (us ++ blanks n)
+          → (n : ℕ) × Blocks (eachWider base bs) (us ++ blanks n)
       go absent τ ih t = absurd t
       go (found m q o) τ ih t =
           let (v, t′) = and-passes (elementRestrict T l p m q) (recurseUnordered L T r o) t in
@@ -139,13 +143,13 @@ module _ (L : Leaves) (T : Tables) (derived base : Names) (N : NamesAmong L T de
   unordered-blocks (item (choice p) k r) bs ks rs t us b = absurd t
   unordered-blocks (item (all p) k r) bs ks rs t us b = absurd t
 
-  pub unordered-sound : (ds bs : Items) → Every (Known L) ds → Every (Known L) bs → Passes (recurseUnordered L T ds bs) → AnyOrder (each derived ds) ⊆ AnyOrder (each base bs)
+  pub unordered-sound : (ds bs : Items) → Every (Known L) ds → Every (Known L) bs → Passes (recurseUnordered L T ds bs) → AnyOrder (each derived ds) ⊆ AnyOrder (eachWider base bs)
   unordered-sound ds bs ks rs t w (us, j, b) =
       let (n, b′) = unordered-blocks ds bs ks rs t us b in
       (us ++ blanks n, j ∙ sym (joined-blanks us n), b′)
 
 -- items in order are items in any order
-pub in-order-any : (Ws : List (List ℕ → Type 0)) → InOrder Ws ⊆ AnyOrder Ws
+pub in-order-any : (Ws : List Words) → InOrder Ws ⊆ AnyOrder Ws
 in-order-any [] w p = ([], p, refl)
 in-order-any (W ∷ Ws) w p =
     let (bs, j, b) = in-order-any Ws (p .back) (p .right) in

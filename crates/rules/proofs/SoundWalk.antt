@@ -7,41 +7,41 @@ use Prim.Native.Nat.{ℕ}
 use Rattle.particle.specs.Tree.{Head, Items, none, item, Particle, fold}
 use Rattle.totals.specs.Empty.{emptiable}
 use Rattle.language.specs.Language.{Words, InOrder, OneOf, Names, Allows}
-use Rattle.language.specs.Premises.{Every, Throughout, NoEmptyChoice, Ordered}
+use Rattle.language.specs.Premises.{Every, Throughout, Ordered}
 use Rattle.language.proofs.Words.{_⊆_, followed-mono}
 use Rattle.language.proofs.Joining.{AllWithin}
 use Rattle.language.proofs.Premises.{throughout-map}
-use Rattle.language.proofs.Emptiness.{emptiable-allows}
+use Rattle.language.proofs.Wider.{widerFrom, Wider}
+use Rattle.language.proofs.Emptiness.{emptiable-wider}
 use Rattle.rules.specs.Verdicts.{Mark, Leaves}
 use Rattle.rules.specs.Walk.{_⟦_⟧, Judge, leftOver, recurseOrdered, alternatives, eachMember}
 use Rattle.rules.specs.Demand.{LeafKnown}
 use Rattle.rules.proofs.Passing.{Passes, and-passes, or-passes, skip-passes, step-passes}
-use Rattle.rules.proofs.SoundElements.{Known, each}
+use Rattle.rules.proofs.SoundElements.{Known, each, eachWider}
 
 -- what is supposed of each record of the base
 pub record Regular (L : Leaves) (h : Head) (k : Items) : Type 0 where
   pub known : LeafKnown L h
   pub ordered : Ordered h k
-  pub nonempty : NoEmptyChoice h k
 
--- where J passes, the derived tree allows no more than the base
+-- where J passes, the derived tree allows no more than the base, as the rules take it
 abbrev pub Sound : Leaves → (derived base : Names) → Judge → Type 0
-Sound L derived base J = (d b : Particle) → Throughout (Known L) d → Throughout (Regular L) b → Passes (J d b) → Allows derived d ⊆ Allows base b
+Sound L derived base J = (d b : Particle) → Throughout (Known L) d → Throughout (Regular L) b → Passes (J d b) → Allows derived d ⊆ Wider base b
 
 module _ (L : Leaves) (derived base : Names) where
-  base-empty : (x : Particle) → Throughout (Regular L) x → emptiable x ≡ true → Allows base x []
-  base-empty x rs = emptiable-allows base x (throughout-map (λ h k r. r .ordered) x rs) (throughout-map (λ h k r. r .nonempty) x rs)
+  base-empty : (x : Particle) → Throughout (Regular L) x → emptiable x ≡ true → Wider base x []
+  base-empty x rs = emptiable-wider base x (throughout-map (λ h k r. r .ordered) x rs)
 
-  left-over : (bs : Items) → Every (Regular L) bs → Passes (leftOver bs) → InOrder (each base bs) []
-  unfolding leftOver fold Allows
+  left-over : (bs : Items) → Every (Regular L) bs → Passes (leftOver bs) → InOrder (eachWider base bs) []
+  unfolding leftOver fold Wider
   left-over none rs t = refl
   left-over (item h k r) (R, rs) t =
       let (e, t′) = skip-passes (emptiable (h ⟦ k ⟧)) 121 (leftOver r) t in
       record { front = []; back = []; whole = refl; left = base-empty (h ⟦ k ⟧) R e; right = left-over r rs t′ }
 
   module _ (J : Judge) (S : Sound L derived base J) where
-    pub walk-in-order : (ds bs : Items) → Every (Known L) ds → Every (Regular L) bs → Passes (recurseOrdered J false ds bs) → InOrder (each derived ds) ⊆ InOrder (each base bs)
-    unfolding recurseOrdered fold Allows
+    pub walk-in-order : (ds bs : Items) → Every (Known L) ds → Every (Regular L) bs → Passes (recurseOrdered J false ds bs) → InOrder (each derived ds) ⊆ InOrder (eachWider base bs)
+    unfolding recurseOrdered fold Allows Wider
     walk-in-order none none ks rs t w p = p
     walk-in-order (item h k r) none ks rs t w p = absurd t
     walk-in-order none (item hb kb rb) ks rs t w p = rw p (left-over (item hb kb rb) rs t)
@@ -51,8 +51,8 @@ module _ (L : Leaves) (derived base : Names) where
         (λ (e, t′). record { front = []; back = w; whole = refl; left = base-empty (hb ⟦ kb ⟧) R e; right = walk-in-order (item hd kd rd) rb (K, ks) rs t′ w p })
         (step-passes (J (hd ⟦ kd ⟧) (hb ⟦ kb ⟧)) (recurseOrdered J false rd rb) (recurseOrdered J false (item hd kd rd) rb) (emptiable (hb ⟦ kb ⟧)) t)
 
-    pub walk-one-of : (ds bs : Items) → Every (Known L) ds → Every (Regular L) bs → Passes (recurseOrdered J true ds bs) → OneOf (each derived ds) ⊆ OneOf (each base bs)
-    unfolding recurseOrdered fold Allows
+    pub walk-one-of : (ds bs : Items) → Every (Known L) ds → Every (Regular L) bs → Passes (recurseOrdered J true ds bs) → OneOf (each derived ds) ⊆ OneOf (eachWider base bs)
+    unfolding recurseOrdered fold Allows Wider
     walk-one-of none none ks rs t w p = p
     walk-one-of (item h k r) none ks rs t w p = absurd t
     walk-one-of none (item hb kb rb) ks rs t w p = absurd p
@@ -62,8 +62,8 @@ module _ (L : Leaves) (derived base : Names) where
         (λ (e, t′). inr (walk-one-of (item hd kd rd) rb (K, ks) rs t′ w p))
         (step-passes (J (hd ⟦ kd ⟧) (hb ⟦ kb ⟧)) (recurseOrdered J true rd rb) (recurseOrdered J true (item hd kd rd) rb) true t)
 
-    pub alternatives-sound : (r : ℕ) (x : Particle) (bs : Items) → Throughout (Known L) x → Every (Regular L) bs → Passes (alternatives J r x bs) → Allows derived x ⊆ OneOf (each base bs)
-    unfolding alternatives fold Allows
+    pub alternatives-sound : (r : ℕ) (x : Particle) (bs : Items) → Throughout (Known L) x → Every (Regular L) bs → Passes (alternatives J r x bs) → Allows derived x ⊆ OneOf (eachWider base bs)
+    unfolding alternatives fold Allows Wider
     alternatives-sound r x none K rs t w p = absurd t
     alternatives-sound r x (item h k rb) K (R, rs) t w p =
         ⊎-elim (λ s. inl (S x (h ⟦ k ⟧) K R s w p)) (λ t′. inr (alternatives-sound r x rb K rs t′ w p)) (or-passes (J x (h ⟦ k ⟧)) (alternatives J r x rb) t)

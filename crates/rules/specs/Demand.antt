@@ -57,8 +57,19 @@ pub record Supposed (L : Leaves) (x : Particle) : Type 0 where
   pub noEmptyChoice : Throughout NoEmptyChoice x
   pub noZeroBelow : BelowRoot NoZeroMaximum x
 
--- Where the mark is a pass, every sequence of names that the derived tree allows is allowed by the base tree, whatever sets of names the leaves have as derived and as base.
-abbrev pub PassesIncludes : Type 1
-PassesIncludes = (L : Leaves) (T : Tables) (derived base : Names) → NamesAmong L T derived base
-    → (d b : Particle) → Supposed L d → Supposed L b → mark L T d b ≡ passes
+-- What of it is needed of the derived tree, and of the base tree.
+pub record NeededDerived (L : Leaves) (x : Particle) : Type 0 where
+  pub leavesKnown : Throughout (λ h k. LeafKnown L h) x
+  pub noZeroBelow : BelowRoot NoZeroMaximum x
+
+pub record NeededBase (L : Leaves) (x : Particle) : Type 0 where
+  pub leavesKnown : Throughout (λ h k. LeafKnown L h) x
+  pub ordered : Throughout Ordered x
+  pub noEmptyChoice : Throughout NoEmptyChoice x
+
+-- Of a derived tree as D says and a base tree as B says: where the mark is a pass, every sequence of names that the derived tree allows is allowed by the base tree, whatever sets of names the leaves
+-- have as derived and as base.
+abbrev pub PassesIncludes : (D B : Leaves → Particle → Type 0) → Type 1
+PassesIncludes D B = (L : Leaves) (T : Tables) (derived base : Names) → NamesAmong L T derived base
+    → (d b : Particle) → D L d → B L b → mark L T d b ≡ passes
     → (w : List ℕ) → Allows derived d w → Allows base b w

@@ -2,6 +2,7 @@ pub mod Steps
 pub mod Premises
 pub mod FoldsKept
 pub mod Allowed
+pub mod TidiedWithin
 pub mod Emptiness
 pub mod Sizes
 pub mod Examples
