@@ -7,8 +7,8 @@
  * promises, over the numbers of crates/exports/specs/Numbers.antt. The
  * contracts ask nothing of the bytes: every byte string is an input, and a bad
  * one is refused by number. 'Document 01' is the specification of sheets,
- * trees, marks and refusals, document 02 that of chains; docs/KEY.md lists
- * their rules.
+ * trees, marks and refusals, as document 02 changes it; document 02 is also
+ * that of chains. docs/KEY.md lists their rules.
  *
  * A SLICE is a pointer and, right after it, a length in bytes. The proofs
  * suppose of each slice what its type says, and the caller must see to it:
@@ -137,6 +137,9 @@ enum marker_reason {
     MARKER_MAX_UNBOUNDED = 123,
     /* element, element: the maximum is above the base's */
     MARKER_MAX_ABOVE = 124,
+    /* element, sequence or choice: the base maximum is 0 (second reading,
+     * which no mark shows) */
+    MARKER_BASE_MAY_NOT_OCCUR = 125,
     /* the first reason that the paper sets */
     MARKER_LEAST_SET = 140,
     /* the last */

@@ -7,8 +7,8 @@
 //! function promises is what the contracts in crates/exports/src/lib.rt
 //! promise; link/marker.h words them one by one and says what holds of threads,
 //! stack and time. What a caller in C must see to, Rust's types see to here.
-//! 'Document 01' is the specification of sheets, trees, marks and refusals,
-//! document 02 that of chains.
+//! 'Document 01' is the specification of sheets, trees, marks and refusals, as
+//! document 02 changes it; document 02 is also that of chains.
 
 // A program may use a part of it.
 #![allow(dead_code)]
@@ -124,9 +124,9 @@ macro_rules! numbers {
 }
 
 numbers! {
-    /// Why a sheet fails: 101 to 124, or 140 to 152 for a reason that the paper
-    /// sets. 110 to 112 arise only in an element's second reading, whose reason
-    /// is never the mark's. It displays as the words of docs/KEY.md.
+    /// Why a sheet fails: 101 to 125, or 140 to 152 for a reason that the paper
+    /// sets. 110 to 112 and 125 arise only in an element's second reading, whose
+    /// reason is never the mark's. It displays as the words of docs/KEY.md.
     Reason, "a reason that the paper sets":
     101 ELEMENT_WILDCARD_RANGE "element, wildcard: the range isn't within the base's"
     102 WILDCARD_ELEMENT "wildcard, element: a wildcard can't restrict an element"
@@ -155,6 +155,8 @@ numbers! {
     122 MIN_BELOW "element, element: the minimum is below the base's"
     123 MAX_UNBOUNDED "element, element: the maximum is unbounded, the base's isn't"
     124 MAX_ABOVE "element, element: the maximum is above the base's"
+    125 BASE_MAY_NOT_OCCUR
+        "element, sequence or choice: the base maximum is 0 (second reading, which no mark shows)"
 }
 
 numbers! {

@@ -166,6 +166,27 @@ static void test_marks(void)
     check("elements at the depth", MARKER_PASSES, mark_below(MOST_DEPTH - 1, MOST_DEPTH - 1));
 }
 
+/* Base groups of maximum 0 that hold a. */
+static void test_base_may_not_occur(void)
+{
+    uint8_t sheet[MARKER_LEAST_SHEET + MARKER_RECORD];
+    uint8_t *derived = sheet + DERIVED, *base = sheet + BASE;
+    memcpy(sheet, PRINTED, DERIVED);
+    size_t length = contents(sheet, 1, 1, 2);
+    record(derived, ELEMENT, 0, 0, 1, 1);
+    record(record(base, SEQUENCE, 0, 1, 0, 0), ELEMENT, 0, 0, 1, 1);
+    check("a | S(0,0)[a]", MARKER_SEQUENCE_RANGE, mark(sheet, length));
+    sheet[FIRST] = 1;
+    check("a | S(0,0)[a], verdict 1", MARKER_SEQUENCE_RANGE, mark(sheet, length));
+    sheet[FIRST] = 0;
+    base[KIND] = CHOICE;
+    check("a | C(0,0)[a]", MARKER_CHOICE_RANGE, mark(sheet, length));
+    record(derived, ELEMENT, 0, 0, 0, 0);
+    check("a(0,0) | C(0,0)[a]", MARKER_PASSES, mark(sheet, length));
+    base[KIND] = SEQUENCE;
+    check("a(0,0) | S(0,0)[a]", MARKER_PASSES, mark(sheet, length));
+}
+
 static void test_refused_sheets(void)
 {
     check("no byte", MARKER_REFUSED + MARKER_REFUSAL_CONTENTS, mark(PRINTED, 0));
@@ -311,6 +332,7 @@ static void test_helpers(void)
 int main(void)
 {
     test_marks();
+    test_base_may_not_occur();
     test_refused_sheets();
     test_totals();
     test_emptiable();

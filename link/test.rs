@@ -123,6 +123,20 @@ fn marks() {
     assert_eq!(mark_below(MOST_DEPTH - 1, MOST_DEPTH - 1), Mark::Passes);
 }
 
+/// a | S(0,0)[a], a | C(0,0)[a], and with a(0,0) in a's place.
+#[test]
+fn base_may_not_occur() {
+    let (one, none) = (once(ELEMENT, 0, 0), record(ELEMENT, 0, 0, 0, Some(0)));
+    for (kind, reason) in [(SEQUENCE, Reason::SEQUENCE_RANGE), (CHOICE, Reason::CHOICE_RANGE)] {
+        let base = [record(kind, 0, 1, 0, Some(0)), one].concat();
+        let mut against = sheet(1, &one, &base);
+        assert_eq!(mark(&against), Mark::Fails(reason));
+        against[FIRST] = 1;
+        assert_eq!(mark(&against), Mark::Fails(reason), "with an undecided verdict");
+        assert_eq!(mark(&sheet(1, &none, &base)), Mark::Passes);
+    }
+}
+
 #[test]
 fn set_by_the_paper() {
     for number in 140..=152 {
@@ -314,6 +328,10 @@ fn words() {
     assert_eq!(Mark::Fails(Reason::MIN_BELOW).to_string(), "fails 122");
     assert_eq!(mark(&[]).to_string(), "refused 1");
     assert_eq!(Reason::MIN_BELOW.to_string(), "element, element: the minimum is below the base's");
+    assert_eq!(Mark::Fails(Reason::BASE_MAY_NOT_OCCUR).to_string(), "fails 125");
+    let words =
+        "element, sequence or choice: the base maximum is 0 (second reading, which no mark shows)";
+    assert_eq!(Reason::BASE_MAY_NOT_OCCUR.to_string(), words);
     let words =
         "the caller's mistake: buffer shorter than the tree handed in, or than the joined tree, which no sheet shows";
     assert_eq!(Refusal::BUFFER.to_string(), words);

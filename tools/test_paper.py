@@ -14,19 +14,20 @@ from support import (
     ROOT, SAMPLES, Command, needs_joiner, needs_marker, random_paper, random_sheet, run,
 )
 from usage import GRAMMAR
-from words import REASONS, REFUSALS, in_words
+from words import NEVER_SHOWN, REASONS, REFUSALS, in_words
 
 README = ROOT / "tools" / "README.md"
 KEY = ROOT / "docs" / "KEY.md"
 SMALLEST = SAMPLES / "smallest.sheet"
 
-# Document 01, 'Examples': derived and base tree, a statement, the mark.
+# Document 01, 'Examples', as document 02 changes them: derived and base tree, a
+# statement, the mark.
 EXAMPLES = [
     ("a | a(0,1)", "", "passes"),
     ("a(0,1) | a", "", "fails 122"),
     ("S[a,b] | S[a,c(0,1),b]", "", "passes"),
     ("S[a,b] | S[a,c,b]", "", "fails 140"),
-    ("a | S(0,0)[a]", "", "passes"),
+    ("a | S(0,0)[a]", "", "fails 105"),
     ("C[] | C[a,b]", "", "passes"),
     ("S(2,2)[a,b] | C(4,4)[a,b]", "", "passes"),
     ("S(2,2)[a,b] | C(1,3)[a,b]", "", "fails 116"),
@@ -48,6 +49,22 @@ SETTLED = [
     ("C[a,C[]] | a", "", "passes"),
 ]
 
+# A base group of maximum 0 lets no element through (document 02 §5), whatever is
+# undecided; only an element of maximum 0 passes, by the rule before all others.
+# Below the root, tidying drops such a group.
+MAY_NOT_OCCUR = [
+    ("a | C(0,0)[a]", "", "fails 106"),
+    ("a(0,0) | S(0,0)[a]", "", "passes"),
+    ("a(0,0) | C(0,0)[a]", "", "passes"),
+    ("a | S(0,0)[b]", "a | b : first undecided", "fails 105"),
+    ("a | S(0,0)[a]", "a | a : second undecided", "fails 105"),
+    ("a | C(0,0)[b,c]", "a | b : undecided", "fails 106"),
+    ("a(0,*) | S(0,0)[a(0,*)]", "", "fails 105"),
+    ("S[a] | S(0,0)[a]", "", "fails 105"),
+    ("a | S(0,0)[C[a,b]]", "", "fails 106"),
+    ("a | S[S(0,0)[a],a]", "", "passes"),
+]
+
 # A paper for each reason that a mark shows and the paper does not set.
 BY_REASON = {
     101: "a(0,*) | w", 102: "w | a", 103: "w(0,*) | w", 104: "w | w1\nw1 : strict",
@@ -58,8 +75,16 @@ BY_REASON = {
     121: "S[a,b] | S[a,b,c]", 122: "a(0,1) | a", 123: "a(1,*) | a", 124: "a(1,2) | a",
 }
 
+# For each of the other reasons a paper whose second reading fails by it, and the
+# reason that the mark shows.
+NOT_SHOWN = {
+    110: ("a | S(2,2)[a]", 105), 111: ("a | C[b,c]", 120), 112: ("a | C(2,2)[a,b]", 106),
+    125: ("a | S(0,0)[a]", 105),
+}
+
 SAMPLE_MARKS = {
-    "entry": "passes", "results": "undecided", "rounds": "fails 105", "season": "passes",
+    "entry": "passes", "never": "fails 105", "results": "undecided", "rounds": "fails 105",
+    "season": "passes",
 }
 # Of papers whose base is a chain.
 CHAIN_MARKS = {"report": "passes"}
@@ -162,10 +187,14 @@ class Reading(Command):
 
 class Words(unittest.TestCase):
     def test_every_number_has_words(self):
-        self.assertEqual(list(REASONS), list(range(101, 125)))
+        self.assertEqual(list(REASONS), list(range(101, 126)))
         self.assertEqual(sorted(REFUSALS), list(range(1, 17)))
         for number in range(140, 153):
             self.assertEqual(in_words("fails", number), "a reason that the paper sets")
+
+    def test_words_say_which_reasons_no_mark_shows(self):
+        said = {number for number, (words, _) in REASONS.items() if NEVER_SHOWN in words}
+        self.assertEqual(said, set(NOT_SHOWN))
 
     def test_words_are_those_of_the_key(self):
         rows = KEY.read_text(encoding="utf-8").splitlines()
@@ -187,14 +216,15 @@ class Marks(Command):
     COUNT = 1000
 
     def test_examples(self):
-        for trees, statement, mark in EXAMPLES + SETTLED:
-            with self.subTest(trees=trees):
+        for trees, statement, mark in EXAMPLES + SETTLED + MAY_NOT_OCCUR:
+            with self.subTest(trees=trees, statement=statement):
                 done = run("mark", data=f"{trees}\n{statement}\n".encode())
                 self.assertEqual(done.stdout.decode().split(":")[0], mark, done.stderr)
 
     def test_every_reason(self):
-        self.assertEqual(set(REASONS) - set(BY_REASON), {110, 111, 112})
-        for reason, text in BY_REASON.items():
+        self.assertEqual(set(REASONS) - set(BY_REASON), set(NOT_SHOWN))
+        by_reason = [*BY_REASON.items(), *((shown, text) for text, shown in NOT_SHOWN.values())]
+        for reason, text in by_reason:
             given = marker.mark(layout.encode(parse(text)))
             self.assertEqual(given, marker.Mark("fails", reason), text)
 

@@ -1,5 +1,5 @@
-"""Marks and refusals in words, as document 01 and docs/KEY.md word them. The
-letter and number beside a reason is the rule's place in docs/KEY.md."""
+"""Marks and refusals in words, as documents 01 and 02 and docs/KEY.md word them.
+The letter and number beside a reason is the rule's place in docs/KEY.md."""
 
 from sheet import SET_REASONS
 
@@ -39,6 +39,7 @@ REASONS = {
     122: ("element, element: the minimum is below the base's", "M2"),
     123: ("element, element: the maximum is unbounded, the base's isn't", "M2"),
     124: ("element, element: the maximum is above the base's", "M2"),
+    125: (f"element, sequence or choice: the base maximum is 0 ({NEVER_SHOWN})", "M7"),
 }
 
 CALLER = "the caller's mistake: "
