@@ -11,7 +11,7 @@ pub struct Subject {
     pub derived: Particle,
     pub base: Particle,
     pub schema: CompiledSchema,
-    /// The oracle's mark, which is the library's too, as it numbers them.
+    /// The expected mark, in the library's numbers.
     pub mark: u32,
 }
 
@@ -19,15 +19,16 @@ impl Subject {
     fn new(sheet: &Sheet) -> Subject {
         let bytes = sheet.encode();
         let (derived, base, schema) = direct::particles(&bytes);
-        let mark = expected::sheet::mark(&bytes);
+        let answer = expected::sheet::mark(&bytes);
         let direct = expected::sheet::number(doors::mark(&derived, &base, &schema));
-        assert!(direct == mark, "the particles made for the benchmark are not the sheet's");
-        Subject { bytes, derived, base, schema, mark }
+        let same = answer.rust_mark == Some(direct);
+        assert!(same, "the particles made for the benchmark are not the sheet's");
+        Subject { bytes, derived, base, schema, mark: answer.mark }
     }
 }
 
-/// The sheets, made ready. The library must answer as the oracle does:
-/// otherwise there is nothing to measure.
+/// The sheets, made ready. The library must answer as expected: otherwise there
+/// is nothing to measure.
 pub fn ready(group: &str, sheets: &[Sheet]) -> Vec<Subject> {
     let subjects: Vec<Subject> = sheets.iter().map(Subject::new).collect();
     for Subject { bytes, mark, .. } in &subjects {

@@ -21,6 +21,7 @@ pub fn stated() -> Vec<Stated> {
     out.extend(leaves());
     out.extend(products());
     out.extend(totals());
+    out.extend(may_not_occur());
     out.push(("the longest marking", longest(MOST), "undecided"));
     out
 }
@@ -290,6 +291,26 @@ fn totals() -> Vec<Stated> {
         ("unbounded times 0", total((0, None), (0, Some(0)), (0, Some(0))), "passes"),
         ("the largest pair", sheet(element(0, exact(TOP)), element(0, exact(TOP))), "passes"),
         ("one more than that", open(), "fails 123"),
+    ]
+}
+
+/// Bases that may not occur, as wide and as deep as they can be; the element is
+/// found at their end.
+fn may_not_occur() -> Vec<Stated> {
+    let never = |kind, items| sheet(element(0, ONCE), group(kind, exact(0), items));
+    let mut optional = vec![element(1, (0, Some(1))); MOST - 1];
+    optional.push(element(0, ONCE));
+    let nested = |kinds: [Kind; 2]| {
+        let chain = (2..MOST_DEPTH).fold(element(0, ONCE), |inner, level| {
+            group(kinds[level % 2], (0, Some(2)), vec![inner])
+        });
+        never(kinds[MOST_DEPTH % 2], vec![chain])
+    };
+    vec![
+        ("the widest sequence of maximum 0", never(Kind::Sequence, optional), "fails 105"),
+        ("the widest choice of maximum 0", never(Kind::Choice, last_only()), "fails 106"),
+        ("the deepest sequence of maximum 0", nested([Kind::Sequence, Kind::Choice]), "fails 105"),
+        ("the deepest choice of maximum 0", nested([Kind::Choice, Kind::Sequence]), "fails 106"),
     ]
 }
 

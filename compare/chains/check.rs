@@ -94,7 +94,7 @@ pub fn text(answer: u64) -> String {
 }
 
 /// The library accepts the joined tree alone, and as the base of a sheet whose
-/// leaves have its numbers and kinds, and then marks as the oracle does.
+/// leaves have its numbers and kinds, and then marks as expected.
 fn as_tree(joined: &[u8], rng: &mut Rng, tally: &mut Tally) -> Result<(), Difference> {
     if let Some(number) = answers::total_refusal(library::total_min(joined)) {
         let (expected, got) = ("accepted".into(), format!("refused {number}"));
@@ -105,7 +105,7 @@ fn as_tree(joined: &[u8], rng: &mut Rng, tally: &mut Tally) -> Result<(), Differ
         return Ok(());
     };
     let sheet = sheets::with_base(rng, leaves, tree).encode();
-    let (expected, got) = (expected::sheet::mark(&sheet), library::mark(&sheet));
+    let (expected, got) = (expected::sheet::mark(&sheet).mark, library::mark(&sheet));
     tally.bases += 1;
     if expected == got {
         return Ok(());

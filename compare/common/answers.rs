@@ -14,8 +14,8 @@ pub const REFUSED: u32 = 1000;
 /// The refusals of a sheet.
 pub const REFUSALS: [u32; 13] = [1, 3, 4, 5, 6, 7, 8, 9, 10, 11, 12, 13, 14];
 
-/// Every reason that a sheet's mark can show: 110, 111 and 112 arise only in
-/// the second of an element's two readings, whose reason is never the mark's.
+/// Every reason that a sheet's mark can show: 110, 111, 112 and 125 arise only
+/// in the second of an element's two readings, whose reason is never the mark's.
 const SHOWN: [std::ops::RangeInclusive<u32>; 3] = [101..=109, 113..=124, 140..=152];
 
 /// The reasons that a sheet's mark can show.

@@ -15,8 +15,7 @@ pub struct Case {
     pub subject: Subject,
     /// The mark, the total range or the refusal, as `fails 122`.
     pub stated: String,
-    /// What the document states of the Rust on a tree or a chain, where that
-    /// differs.
+    /// What the document states of the Rust, where that differs.
     pub rust: Option<String>,
     /// The W3C text's answer, `valid` or `fails`, or its total range.
     pub w3c: Option<String>,

@@ -138,7 +138,7 @@ fn cases(number: Option<u32>, text: &str) -> Result<Vec<Case>, String> {
             _ => mark(after),
         };
         let (stated, rest) = claim.ok_or(format!("nothing is stated of {subject}"))?;
-        let rust = rest.strip_prefix(RUST).and_then(range).map(|(range, _)| range);
+        let rust = rusts(rest, &subject)?;
         let w3c = w3c(rest, &subject)?;
         cases.push(Case { number, subject, stated, rust, w3c });
     }
@@ -183,6 +183,19 @@ fn range(text: &str) -> Option<(String, &str)> {
     let known = |text: &str| text == "too large" || text.parse::<u64>().is_ok();
     (known(min) && (max == "unbounded" || known(max)))
         .then(|| (format!("{min}, {max}"), &text[end..]))
+}
+
+/// The Rust's own answer that stands after a mark or a total range.
+fn rusts(text: &str, subject: &Subject) -> Result<Option<String>, String> {
+    let Some(said) = text.strip_prefix(RUST) else {
+        return Ok(None);
+    };
+    let answer = match subject {
+        Subject::Tree(_) => range(said),
+        _ => mark(said),
+    };
+    let answer = answer.ok_or(format!("no answer of the Rust on {subject}: {said}"))?;
+    Ok(Some(answer.0))
 }
 
 /// The W3C text's answer that stands after a mark or a total range.

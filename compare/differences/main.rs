@@ -13,7 +13,7 @@ mod search;
 
 use case::Paper;
 use document::{BY_RULES, Document};
-use search::Found;
+use search::{Found, OWN};
 
 const DOCUMENT: &str = "docs/DIFFERENCES.md";
 
@@ -67,6 +67,7 @@ fn hold(document: &Document) -> Result<(Vec<String>, Option<String>), String> {
 
 fn print(found: &Found) {
     println!("{} pairs of small trees, the reading by the Rust's ways as the Rust", found.pairs);
+    println!("  by the library's as the library, which differs from the Rust on {}", found.own);
     println!("  {} hang on the order of ignoring pointless groups", found.by_order);
     println!("  {} others differ, {} by a number alone:", found.different, found.by_one);
     for (number, smallest) in &found.smallest {
@@ -75,12 +76,14 @@ fn print(found: &Found) {
     }
 }
 
-/// What the document states of the search: the counts, and by number how many
+/// What the document states of the search: the counts, that the library differs
+/// from the Rust only where it answers as the W3C text, and by number how many
 /// records the smallest case with a difference has.
 fn hold_search(document: &Document, found: &Found) -> Vec<String> {
     let mut wrong = Vec::new();
     let counts = [
         (found.pairs, "pairs of trees"),
+        (found.own, "pairs the library differs"),
         (found.by_order, "hang on the order"),
         (found.different, "others differ"),
         (found.by_one, "by a number alone"),
@@ -90,6 +93,10 @@ fn hold_search(document: &Document, found: &Found) -> Vec<String> {
         if !document.says(&words) {
             wrong.push(format!("the document does not say '{words}'"));
         }
+    }
+    let alone = found.smallest.get(&OWN).map_or(0, |smallest| smallest.pairs);
+    if alone != found.own {
+        wrong.push(format!("{} own answers, {alone} of them the W3C text's", found.own));
     }
     for number in BY_RULES {
         let of_number = document.cases.iter().filter(|case| case.number == Some(number));

@@ -22,7 +22,7 @@ pub fn wrong(case: &Case) -> Vec<String> {
         }
     };
     let answers = answers(&case.subject);
-    hold(answers.by, &answers.expected, &case.stated);
+    hold("expected is", &answers.expected, &case.stated);
     hold("the library", &answers.library, &case.stated);
     if let Some(rust) = &answers.rust {
         hold("the Rust", rust, case.rust.as_ref().unwrap_or(&case.stated));
@@ -52,17 +52,13 @@ pub fn different(case: &Case) -> Option<&Paper> {
 }
 
 struct Answers {
-    /// What the library must answer, and by whom: the Rust, or the second
-    /// reading where that is a total range or a refusal.
+    /// What the library must answer (compare/expected).
     expected: String,
-    by: &'static str,
     library: String,
-    /// The Rust's own answer, where it has one that may be another.
+    /// The Rust's own answer, where it has one.
     rust: Option<String>,
     w3c: String,
 }
-
-const SECOND: &str = "the second reading";
 
 fn answers(subject: &Subject) -> Answers {
     match subject {
@@ -85,12 +81,11 @@ fn of_paper(paper: &Paper) -> Answers {
         Some(Answer::Undecided) => "is undecided",
         None => "hangs on the order",
     };
-    let expected = answers::text(expected::sheet::mark(&bytes));
+    let expected = expected::sheet::mark(&bytes);
     Answers {
-        by: if expected.starts_with("refused") { SECOND } else { "the Rust" },
-        expected,
+        expected: answers::text(expected.mark),
         library: answers::text(library::mark(&bytes)),
-        rust: None,
+        rust: expected.rust_mark.map(answers::text),
         w3c: w3c.into(),
     }
 }
@@ -100,7 +95,6 @@ fn of_bytes(bytes: &[u8]) -> Answers {
     let expected = expected::tree::answers(bytes);
     Answers {
         expected: range_text(expected.total),
-        by: SECOND,
         library: range_text((library::total_min(bytes), library::total_max(bytes))),
         rust: expected.rust_total.map(range_text),
         w3c: "has no answer".into(),
@@ -121,7 +115,6 @@ fn of_chain(chain: &[Option<Tree>]) -> Answers {
     let got = library::effective_particle(&bytes, &mut out);
     Answers {
         expected: text(answer, written),
-        by: SECOND,
         library: text(got, &out[..RECORD * (got as usize).min(MOST_RECORDS)]),
         rust: Some(joined(chain)),
         w3c: "has no answer".into(),

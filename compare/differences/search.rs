@@ -1,10 +1,13 @@
-//! All pairs of small trees, marked by the Rust and by our reading of the W3C
-//! text. With the Rust's way at every number the reading must answer as the
-//! Rust does. A number alone explains a difference where the W3C text's way at
-//! this number, and the Rust's at all others, gives the W3C text's answer.
+//! All pairs of small trees, marked by the Rust, by the library and by our
+//! reading of the W3C text. With the Rust's way at every number the reading must
+//! answer as the Rust does, and with the W3C text's way at the number that
+//! document 02 §5 settles as the library. A number alone explains a difference
+//! where the W3C text's way at this number, and the Rust's at all others, gives
+//! the W3C text's answer.
 
 use std::collections::BTreeMap;
 
+use common::answers::REFUSED;
 use common::sheet::Sheet;
 use common::tree::{Kind, Tree};
 use oracle::bridge;
@@ -14,9 +17,14 @@ use w3c::{Answer, Order, Ways};
 use crate::document::BY_RULES;
 use crate::lots::{self, Lot};
 
+/// The one number at which the library has not the Rust's way.
+pub const OWN: u32 = 16;
+
 #[derive(Default)]
 pub struct Found {
     pub pairs: u64,
+    /// Pairs on which the library differs from the Rust.
+    pub own: u64,
     /// Pairs on which the two orders of ignoring pointless groups differ.
     pub by_order: u64,
     /// The other pairs on which the Rust and the reading differ.
@@ -34,8 +42,8 @@ pub struct Smallest {
     pub text: String,
 }
 
-/// Marks every pair. The first on which the reading with the Rust's way is
-/// unlike the Rust ends it.
+/// Marks every pair. The first on which the reading is unlike the Rust or the
+/// library ends it.
 pub fn run() -> Result<Found, String> {
     let mut found = Found::default();
     for lot in lots::every() {
@@ -73,14 +81,29 @@ pub fn rust(sheet: &Sheet) -> Answer {
     }
 }
 
+/// The library's answer; nothing where it refuses the sheet.
+fn library(sheet: &Sheet) -> Option<Answer> {
+    match library::mark(&sheet.encode()) {
+        0 => Some(Answer::Valid),
+        1 => Some(Answer::Undecided),
+        reason => (reason < REFUSED).then_some(Answer::Fails),
+    }
+}
+
 fn compare(sheet: &Sheet, lot: &Lot, found: &mut Found) -> Result<(), String> {
     found.pairs += 1;
     let rust = rust(sheet);
-    let by_rust = reading(sheet, Ways::RUST);
-    if by_rust != Some(rust) {
-        let text = text(sheet, lot);
-        return Err(format!("{text}: the Rust {rust:?}, the reading by its ways {by_rust:?}"));
+    let library =
+        library(sheet).ok_or_else(|| format!("{}: the library refuses it", text(sheet, lot)))?;
+    let held = [("Rust", rust, Ways::RUST), ("library", library, Ways::RUST.without(OWN))];
+    for (who, answer, ways) in held {
+        let read = reading(sheet, ways);
+        if read != Some(answer) {
+            let text = text(sheet, lot);
+            return Err(format!("{text}: the {who} {answer:?}, the reading by its ways {read:?}"));
+        }
     }
+    found.own += u64::from(library != rust);
     match reading(sheet, Ways::W3C) {
         None => found.by_order += 1,
         Some(w3c) if w3c != rust => note(sheet, lot, found),

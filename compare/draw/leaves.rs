@@ -41,6 +41,15 @@ pub fn leaves(rng: &mut Rng, count: usize) -> Vec<Leaf> {
     (0..count).map(leaf).collect()
 }
 
+/// Makes about one verdict in four undecided.
+pub fn open(rng: &mut Rng, first: &mut [u8], second: &mut [u8]) {
+    for verdict in first.iter_mut().chain(second) {
+        if rng.one_in(4) {
+            *verdict = 1;
+        }
+    }
+}
+
 /// From all ok to nearly all failing, with and without undecided verdicts;
 /// on the diagonal mostly ok.
 fn table(rng: &mut Rng, count: usize) -> Vec<u8> {

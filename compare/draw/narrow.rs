@@ -98,7 +98,7 @@ impl Narrower<'_> {
 
     /// An element in place of a leaf, or of a group that one of its items can
     /// stand for. None stands for an all-group: that is undecided.
-    fn element(&mut self, base: &Tree) -> Option<Tree> {
+    pub fn element(&mut self, base: &Tree) -> Option<Tree> {
         let item = match base.kind {
             Kind::Element | Kind::Wildcard => return self.leaf(Kind::Element, base),
             Kind::All => return None,

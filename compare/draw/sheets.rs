@@ -42,14 +42,7 @@ pub fn sheet(rng: &mut Rng, size: Size) -> Sheet {
 /// One of the given size, or a little smaller; the derived tree may have
 /// nothing to do with the base.
 fn draw(rng: &mut Rng, size: Size, apart: bool) -> Sheet {
-    let count = match rng.below(20) {
-        0 => 1,
-        1..15 => rng.within(2, 7),
-        _ if size == Size::Small => rng.within(2, 7),
-        15..18 => rng.within(8, 24),
-        _ => rng.pick(&[25, 33, 63, MOST_LEAVES]),
-    };
-    let paper = leaves::paper(rng, count);
+    let paper = paper(rng, size);
     let mut base = tree(rng, &paper.leaves, size);
     let mut derived =
         if apart { tree(rng, &paper.leaves, size) } else { narrowed(rng, &paper, &base) };
@@ -65,6 +58,17 @@ fn draw(rng: &mut Rng, size: Size, apart: bool) -> Sheet {
     Sheet { leaves, first, second, derived, base }
 }
 
+pub(crate) fn paper(rng: &mut Rng, size: Size) -> Paper {
+    let count = match rng.below(20) {
+        0 => 1,
+        1..15 => rng.within(2, 7),
+        _ if size == Size::Small => rng.within(2, 7),
+        15..18 => rng.within(8, 24),
+        _ => rng.pick(&[25, 33, 63, MOST_LEAVES]),
+    };
+    leaves::paper(rng, count)
+}
+
 /// A sheet over these leaves with this base, which fits them. The derived tree
 /// is a narrowed base, or a leaf where that would keep the oracle for long.
 pub fn with_base(rng: &mut Rng, leaves: Vec<Leaf>, base: Tree) -> Sheet {
@@ -78,7 +82,7 @@ pub fn with_base(rng: &mut Rng, leaves: Vec<Leaf>, base: Tree) -> Sheet {
 }
 
 /// A narrowed base, half of them spoiled, mostly in one place.
-fn narrowed(rng: &mut Rng, paper: &Paper, base: &Tree) -> Tree {
+pub(crate) fn narrowed(rng: &mut Rng, paper: &Paper, base: &Tree) -> Tree {
     let mut derived = Narrower { rng, paper }.tree(base, MOST_DEPTH);
     if derived.records() > MOST_RECORDS {
         derived = base.clone();
@@ -89,7 +93,7 @@ fn narrowed(rng: &mut Rng, paper: &Paper, base: &Tree) -> Tree {
     derived
 }
 
-fn tree(rng: &mut Rng, leaves: &[Leaf], size: Size) -> Tree {
+pub(crate) fn tree(rng: &mut Rng, leaves: &[Leaf], size: Size) -> Tree {
     let records = match (size, rng.below(48)) {
         (Size::Between(least, most), _) => rng.within(least, most),
         (Size::Small, _) | (_, 0..24) => rng.within(1, 9),

@@ -1,10 +1,11 @@
-//! Prints document 01's examples with what the oracle says of them, totals as
-//! document 02 §2 has them, then the cases by which doubtful places of document
-//! 01 were settled. Exit status 1 where the oracle, or of a total the second
-//! reading, says something else than is stated beside the example.
+//! Prints document 01's examples with what is expected of them, totals and a
+//! mark as document 02 §2 and §5 have them, and with what the oracle says where
+//! that is another; then the cases by which doubtful places of document 01 were
+//! settled, and those about a base that may not occur. Exit status 1 where
+//! something else is stated beside an example.
 
-use cases::stated::{self, EXAMPLES, Marked, SETTLED};
-use common::answers::{BEYOND, range_text};
+use cases::stated::{self, EXAMPLES, MAY_NOT_OCCUR, Marked, NEARLY, SETTLED};
+use common::answers::{BEYOND, range_text, text};
 use common::notation::parse;
 use oracle::bridge::{self, Leaves};
 use oracle::doors;
@@ -33,6 +34,10 @@ fn main() {
     println!("Settled places:");
     marks(&SETTLED, &mut wrong);
     tidied(&SETTLED_TIDIED, &mut wrong);
+    println!("A base that may not occur:");
+    marks(&MAY_NOT_OCCUR, &mut wrong);
+    println!("Nearly so:");
+    marks(&NEARLY, &mut wrong);
     if wrong > 0 {
         println!("{wrong} examples differ from what is stated");
         std::process::exit(1);
@@ -51,8 +56,14 @@ fn show(example: String, got: String, stated: &str, wrong: &mut u32) {
 
 fn marks(examples: &[Marked], wrong: &mut u32) {
     for (derived, base, also, stated) in examples {
-        let got = bridge::mark(&stated::sheet(derived, base, also)).to_string();
-        show(format!("{derived} | {base}{also}"), got, stated, wrong);
+        let example = format!("{derived} | {base}{also}");
+        let answer = expected::sheet::mark(&stated::sheet(derived, base, also).encode());
+        show(example.clone(), text(answer.mark), stated.mark(), wrong);
+        // Where neither of these is so, the line above holds the original too.
+        if answer.unlike().is_some() || stated.rust_mark() != stated.mark() {
+            let got = answer.rust_mark.map_or("none".into(), text);
+            show(format!("{example}, the original's"), got, stated.rust_mark(), wrong);
+        }
     }
 }
 

@@ -1,6 +1,7 @@
 //! A difference on a sheet, told in document 01's notation: the trees, what
 //! the sheet says of the leaves in them, and the bytes.
 
+use common::answers::text;
 use common::sheet::{Bodies, CONTENTS, LEAF_BYTES, Leaf, Sheet};
 use common::tree::{Kind, RECORD, Tree};
 use second::sheet::first_refusal;
@@ -23,6 +24,9 @@ pub fn print(case: &str, bytes: &[u8], difference: &Difference) {
     }
     println!("  hex:      {}", hex(bytes));
     println!("  expected: {}", difference.expected);
+    if let Some(rust) = expected::sheet::mark(bytes).unlike() {
+        println!("  the Rust: {}", text(rust));
+    }
     println!("  got:      {}", difference.got);
 }
 

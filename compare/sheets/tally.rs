@@ -4,6 +4,8 @@ use std::fmt;
 
 use common::answers::{REFUSALS, REFUSED, marks, reasons};
 
+use crate::ruled::Ruled;
+
 /// How often each answer was expected, by its number.
 pub struct Answers(Vec<u64>);
 
@@ -65,6 +67,7 @@ pub struct Tally {
     pub random_answers: Answers,
     /// Of the damaged sheets.
     pub damaged_answers: Answers,
+    pub ruled: Ruled,
 }
 
 impl fmt::Display for Tally {
@@ -74,7 +77,7 @@ impl fmt::Display for Tally {
             f,
             "all equal: {} known sheets, {} sheets at the limits, {} tiny sheets, \
              {} random sheets ({}; wide derived trees {derived}, base trees {base}), \
-             {} damaged sheets ({} accepted; {})",
+             {} damaged sheets ({} accepted; {}); {}",
             self.known,
             self.limits,
             self.tiny,
@@ -83,6 +86,7 @@ impl fmt::Display for Tally {
             self.damaged,
             self.damaged_answers.accepted(),
             self.damaged_answers.refusals(),
+            self.ruled,
         )
     }
 }

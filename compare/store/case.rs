@@ -59,13 +59,16 @@ pub struct Case {
     pub after: Vec<u8>,
     /// In the numbers of crates/exports.
     pub answer: u64,
+    /// The Rust's own mark, where that is another. It is not written.
+    pub unlike: Option<u32>,
 }
 
 impl Case {
     /// An answer that is a number alone.
     pub fn number(operation: Operation, input: &[u8], answer: u64) -> Case {
         let input = input.to_vec();
-        Case { operation, k: 0, input, before: Vec::new(), after: Vec::new(), answer }
+        let (before, after) = (Vec::new(), Vec::new());
+        Case { operation, k: 0, input, before, after, answer, unlike: None }
     }
 
     /// Operation (8 bits), k (16), length of the input (16) and of the buffer

@@ -17,7 +17,7 @@ const TOP: u64 = BEYOND - 1;
 /// The kind of an answer.
 pub fn of(case: &Case) -> String {
     match case.operation {
-        Operation::Mark => answers::text(case.answer as u32),
+        Operation::Mark => mark(case.answer as u32, case.unlike),
         Operation::TotalMin | Operation::TotalMax => total(case),
         Operation::Emptiable => match case.answer {
             0 => "no".into(),
@@ -31,6 +31,16 @@ pub fn of(case: &Case) -> String {
         },
         Operation::Item => item(case).into(),
         Operation::EffectiveParticle => joined(case),
+    }
+}
+
+/// The kind of a sheet's answer; a mark that the Rust does not give is one of
+/// its own.
+pub fn mark(answer: u32, unlike: Option<u32>) -> String {
+    let answer = answers::text(answer);
+    match unlike.map(answers::text) {
+        None => answer,
+        Some(rust) => format!("{answer} and the Rust {rust}"),
     }
 }
 

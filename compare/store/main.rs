@@ -1,9 +1,8 @@
-//! Writes the stored answers: a sample of the oracle's answers, and of the
-//! refusals of the second reading, that the program of crates/replay compares
-//! with the proved library's. Run it by compare/run. The library takes no part
-//! in it. Exit status 0: written; 2: bad usage, or a file that cannot be
-//! written; a panic says that an answer did not come up, or that the harness
-//! itself is at fault.
+//! Writes the stored answers: a sample of what must be answered (expected/),
+//! that the program of crates/replay compares with the proved library's answers.
+//! Run it by compare/run. The library takes no part in it. Exit status 0:
+//! written; 2: bad usage, or a file that cannot be written; a panic says that an
+//! answer did not come up, or that the harness itself is at fault.
 
 mod case;
 mod chains;

@@ -24,6 +24,7 @@ pub enum Round {
     DamagedTrees,
     Chains,
     DamagedChains,
+    UnlikeSheets,
 }
 
 impl Round {

@@ -1,17 +1,18 @@
 //! The sheets among the stored answers: known ones, some at the limits, random
-//! and damaged ones of every answer. Marks are the oracle's; the Rust has no
-//! refusals, so these are the second reading's (second/sheet.rs).
+//! and damaged ones of every answer. Marks are the oracle's, but for a base that
+//! may not occur; the Rust has no refusals, so these are the second reading's
+//! (second/sheet.rs).
 
-use cases::stated::{self, EXAMPLES, SETTLED};
-use cases::{known_sheets, limits};
+use cases::{known_sheets, limits, stated};
 use common::answers::{self, REFUSALS, REFUSED};
 use common::random::Rng;
 use common::sheet::Sheet;
 use common::tree::{Kind, RECORD, Tree};
-use draw::damaged_sheets;
 use draw::sheets::{self, Size};
+use draw::{damaged_sheets, leaves, may_not_occur};
 
 use crate::case::{Case, Operation};
+use crate::kind;
 use crate::shares::{Round, Shares, Stored};
 
 /// The bytes of a sheet without its records, of two leaves.
@@ -49,6 +50,11 @@ const LONG_FINELY: usize = 1;
 /// How many of each mark and of each refusal there are at least.
 const MARKED: usize = 60;
 const REFUSED_EACH: usize = 60;
+/// The same for sheets about a base that may not occur, and how many there are
+/// at least of each mark that is not the Rust's.
+const UNLIKE_DRAWS: u64 = 20_000;
+const UNLIKE_FINELY: usize = 3;
+const UNLIKE: usize = 30;
 
 pub fn store(stored: &mut Stored, seed: u64) {
     fixed(stored);
@@ -65,7 +71,19 @@ pub fn store(stored: &mut Stored, seed: u64) {
         Round::MoreSheets,
         short,
     );
+    unlike(stored, seed);
     damaged(stored, seed);
+}
+
+/// Sheets about a base that may not occur, and more of those where the Rust
+/// passes or is undecided.
+fn unlike(stored: &mut Stored, seed: u64) {
+    let about = |rng: &mut Rng| up_to(SHORT, may_not_occur::sheet(rng, Size::Small).encode());
+    stored.spread(seed, Round::UnlikeSheets, UNLIKE_DRAWS, UNLIKE_FINELY, about);
+    let kinds = [(105, 0), (105, 1), (106, 0), (106, 1)];
+    let kinds = kinds.map(|(mark, rust)| kind::mark(mark, Some(rust)));
+    let shares = Shares::default().ask(Operation::Mark, kinds, UNLIKE);
+    shares.fill(stored, seed, Round::UnlikeSheets, about);
 }
 
 fn damaged(stored: &mut Stored, seed: u64) {
@@ -87,11 +105,7 @@ fn damaged(stored: &mut Stored, seed: u64) {
 /// A sheet with more undecided verdicts; now and then the base is a wildcard.
 fn open(rng: &mut Rng) -> Sheet {
     let mut sheet = sheets::sheet(rng, Size::Small);
-    for verdict in sheet.first.iter_mut().chain(&mut sheet.second) {
-        if rng.one_in(4) {
-            *verdict = 1;
-        }
-    }
+    leaves::open(rng, &mut sheet.first, &mut sheet.second);
     let wildcard = sheet.leaves.iter().position(|leaf| leaf.kind == Kind::Wildcard);
     match wildcard {
         Some(leaf) if rng.one_in(3) => {
@@ -102,9 +116,9 @@ fn open(rng: &mut Rng) -> Sheet {
     sheet
 }
 
-/// The known sheets, document 01's examples, and some at the limits.
+/// The known sheets, those that are stated by hand, and some at the limits.
 fn fixed(stored: &mut Stored) {
-    for (derived, base, also, _) in EXAMPLES.iter().chain(&SETTLED) {
+    for (derived, base, also, _) in stated::every() {
         stored.add(marked(&stated::sheet(derived, base, also).encode()));
     }
     let known = known_sheets::known().into_iter().map(|(what, bytes, _)| (what, bytes));
@@ -122,5 +136,6 @@ fn up_to(most: usize, bytes: Vec<u8>) -> Vec<Case> {
 }
 
 fn marked(bytes: &[u8]) -> Case {
-    Case::number(Operation::Mark, bytes, expected::sheet::mark(bytes).into())
+    let answer = expected::sheet::mark(bytes);
+    Case { unlike: answer.unlike(), ..Case::number(Operation::Mark, bytes, answer.mark.into()) }
 }

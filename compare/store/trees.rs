@@ -160,5 +160,5 @@ pub fn lent(
     let before: Vec<u8> = (0..room).map(|_| rng.byte()).collect();
     let mut after = before.clone();
     after[..written.len()].copy_from_slice(written);
-    Case { operation, k, input: input.to_vec(), before, after, answer }
+    Case { operation, k, input: input.to_vec(), before, after, answer, unlike: None }
 }
