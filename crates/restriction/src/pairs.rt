@@ -62,6 +62,7 @@ pub fn base_range(r: Record, any: bool) -> Occurs
     particle::range(r)
 }
 
+// Whether a maximum is 0.
 fn is_zero(m: MaxOccurs) -> bool
     ensures { λ b. ⌜ b ≡ isZero m ⌝ }
 {

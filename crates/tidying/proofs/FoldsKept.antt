@@ -2,12 +2,12 @@
 use mathlib.Core.Bool.{true}
 use mathlib.Core.List.{List, [], _∷_, _++_, append-assoc}
 use mathlib.Core.Path.{_≡_}
-use Rattle.particle.specs.Occurs.{isZero, isOnce}
+use Rattle.particle.specs.Occurs.{isOnce}
 use Rattle.particle.specs.Tree.{Head, choice, Items, none, item, Particle, pairOf, fold, _then_}
 use Rattle.language.specs.Premises.{Every, BelowRoot, Throughout, NoZeroMaximum}
-use Rattle.tidying.specs.Tidy.{splices, put, keep, takesPair, lone, closed, settle, tidyItems, tidy}
+use Rattle.tidying.specs.Tidy.{splices, keep, takesPair, lone, closed, settle, tidyItems, tidy}
 use Rattle.tidying.specs.TidyTree.{Group}
-use Rattle.tidying.proofs.Steps.{branch, settle-cases, zero-is, fold-then}
+use Rattle.tidying.proofs.Steps.{branch, settle-cases, keep-cases, zero-is, fold-then}
 
 -- what f makes of a tree
 abbrev pub valueOf {ℓ} : {A : Type ℓ} → (Head → List A → A) → Particle → A
@@ -32,18 +32,13 @@ module _ {ℓ} {A : Type ℓ} (P : Head → Items → Type 0) (f : Head → List
 module _ {ℓ} {A : Type ℓ} {P : Head → Items → Type 0} {f : Head → List A → A} {_≈_ : A → A → Type 0} (L : StepsKept P f _≈_)
     (nonzero : (h : Head) (k : Items) → P h k → NoZeroMaximum h k) (kept : (x : Particle) → Throughout P x → Throughout P (tidy x)) where
   infix 20 _≈_
-  put-value : (g : Head) → Group g → (before : List A) (x : Particle) (rest : Items) → P (x .head) (x .items) → f g (before ++ fold f (put g x rest)) ≈ f g (before ++ valueOf f x ∷ fold f rest)
-  unfolding fold
-  put-value g s before x rest p =
-      branch (λ (y : Items). f g (before ++ fold f y) ≈ f g (before ++ valueOf f x ∷ fold f rest)) (splices g (x .head)) (x .items then rest) (item (x .head) (x .items) rest)
-      (λ e. rw (fold-then f (x .items) rest) (L .turned _ _ (L .spliced g (x .head) (x .items) e p before (fold f rest))))
-      (λ _. L .itself _)
-
   keep-value : (g : Head) → Group g → (before : List A) (x : Particle) (rest : Items) → P (x .head) (x .items) → f g (before ++ fold f (keep g x rest)) ≈ f g (before ++ valueOf f x ∷ fold f rest)
+  unfolding fold
   keep-value g s before x rest p =
-      branch (λ (y : Items). f g (before ++ fold f y) ≈ f g (before ++ valueOf f x ∷ fold f rest)) (isZero (pairOf (x .head) .max)) rest (put g x rest)
+      keep-cases (λ (y : Items). f g (before ++ fold f y) ≈ f g (before ++ valueOf f x ∷ fold f rest)) g x rest
       (λ e. absurd (nonzero (x .head) (x .items) p (zero-is (pairOf (x .head) .max) e)))
-      (λ _. put-value g s before x rest p)
+      (λ e. rw (fold-then f (x .items) rest) (L .turned _ _ (L .spliced g (x .head) (x .items) e p before (fold f rest))))
+      (λ _ _. L .itself _)
 
   lone-value : (g h : Head) (k : Items) → valueOf f (lone g h k) ≈ f g (f h (fold f k) ∷ [])
   unfolding fold

@@ -3,14 +3,14 @@ use mathlib.Core.Path.{_≡_, refl}
 use Prim.Native.Nat.{ℕ}
 use native.Mathlib.Omega.{arith}
 use Rattle.particle.specs.declared.Occurs.{Occurs}
-use Rattle.particle.specs.Occurs.{exactly, isZero, isOnce}
+use Rattle.particle.specs.Occurs.{exactly, isOnce}
 use Rattle.particle.specs.Tree.{Head, sequence, choice, Items, none, item, Particle, pairOf, _then_}
 use Rattle.language.specs.Premises.{Every, Throughout, Ordered, NoZeroMaximum, NoEmptyChoice}
 use Rattle.language.proofs.Premises.{throughout-map, throughout-both}
 use Rattle.language.proofs.Rounds.{once-is}
-use Rattle.tidying.specs.Tidy.{splices, put, keep, takesPair, lone, closed, settle, tidyItems, tidy}
+use Rattle.tidying.specs.Tidy.{keep, takesPair, lone, closed, settle, tidyItems, tidy}
 use Rattle.tidying.specs.TidyTree.{Group}
-use Rattle.tidying.proofs.Steps.{branch, group-cases, settle-cases, splices-cases, takes-cases, zero-is}
+use Rattle.tidying.proofs.Steps.{branch, group-cases, settle-cases, keep-cases, splices-cases, takes-cases, zero-is}
 
 -- The law ------------------------------------------------------------------------------
 
@@ -23,9 +23,7 @@ module _ (P : Head → Items → Type 0) (kept : (g : Head) → Group g → (h :
   every-then (item h k r) y (p, ps) qs = (p, every-then r y ps qs)
 
   keep-every : (g : Head) (x : Particle) (rest : Items) → Throughout P x → Every P rest → Every P (keep g x rest)
-  keep-every g x rest p ps =
-      branch (Every P) (isZero (pairOf (x .head) .max)) rest (put g x rest) (λ _. ps)
-      (λ _. branch (Every P) (splices g (x .head)) (x .items then rest) (item (x .head) (x .items) rest) (λ _. every-then (x .items) rest (p .1) ps) (λ _. (p, ps)))
+  keep-every g x rest p ps = keep-cases (Every P) g x rest (λ _. ps) (λ _. every-then (x .items) rest (p .1) ps) (λ _ _. (p, ps))
 
   lone-each : (g h : Head) (k : Items) → P g (item h k none) → Throughout P (record { head = h; items = k }) → Throughout P (lone g h k)
   lone-each g h k a (b, ps) =
@@ -84,11 +82,9 @@ Plain h k = NoZeroMaximum h k × NoEmptyChoice h k
 -- a choice keeps something of each such item
 keep-some : (q : Occurs) (x : Particle) (rest : Items) → Plain (x .head) (x .items) → ¬ (keep (choice q) x rest ≡ none)
 keep-some q x rest (z, n) =
-    let Some : Items → Type 0 = λ y. ¬ (y ≡ none) in
-    branch Some (isZero (pairOf (x .head) .max)) rest (put (choice q) x rest) (λ e. absurd (z (zero-is (pairOf (x .head) .max) e)))
-    (λ _. branch Some (splices (choice q) (x .head)) (x .items then rest) (item (x .head) (x .items) rest)
+    keep-cases (λ (y : Items). ¬ (y ≡ none)) (choice q) x rest (λ e. absurd (z (zero-is (pairOf (x .head) .max) e)))
     (λ e. then-some (x .items) rest (splices-cases (λ (g h : Head). NoEmptyChoice h (x .items) → NoEmptyChoice g (x .items)) (λ q p o a. a) (λ q p o a. a) (choice q) (x .head) e n))
-    (λ _. item-some (x .head) (x .items) rest))
+    (λ _ _. item-some (x .head) (x .items) rest)
 
 plain-kept : (g : Head) → Group g → (h : Head) (k r rest : Items) (x : Particle) → Plain g (item h k r) → Plain (x .head) (x .items) → Plain g (keep g x rest)
 plain-kept g e h k r rest x a b = group-cases (λ (g : Head). Plain g (item h k r) → Plain g (keep g x rest)) (λ p a. a) (λ p a. (a .0, keep-some p x rest b)) g e a

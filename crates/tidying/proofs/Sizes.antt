@@ -3,11 +3,11 @@ use mathlib.Core.Path.{_≡_, refl}
 use Prim.Native.Nat.{ℕ, suc, _+_, _≤_, max}
 use native.Mathlib.Nat.{le-refl, le-trans}
 use native.Mathlib.Omega.{arith}
-use Rattle.particle.specs.Occurs.{isZero, isOnce}
+use Rattle.particle.specs.Occurs.{isOnce}
 use Rattle.particle.specs.Tree.{Head, choice, Items, none, item, Particle, pairOf, single, sizeI, _then_}
-use Rattle.tidying.specs.Tidy.{splices, put, keep, takesPair, lone, closed, settle, tidyItems, tidy}
+use Rattle.tidying.specs.Tidy.{keep, takesPair, lone, closed, settle, tidyItems, tidy}
 use Rattle.tidying.specs.Depth.{depthOf}
-use Rattle.tidying.proofs.Steps.{branch, settle-cases}
+use Rattle.tidying.proofs.Steps.{branch, settle-cases, keep-cases}
 
 -- a measure of rows, that c makes of the first tree's items and of the later trees, and that does not grow where a tree's items stand in its place
 pub record Measure (m : Items → ℕ) (c : ℕ → ℕ → ℕ) : Type 0 where
@@ -20,9 +20,7 @@ pub record Measure (m : Items → ℕ) (c : ℕ → ℕ → ℕ) : Type 0 where
 module _ {m : Items → ℕ} {c : ℕ → ℕ → ℕ} (M : Measure m c) where
   keep-least : (g : Head) (x : Particle) (rest : Items) → m (keep g x rest) ≤ c (m (x .items)) (m rest)
   keep-least g x rest =
-      let C : Items → Type 0 = λ y. m y ≤ c (m (x .items)) (m rest) in
-      branch C (isZero (pairOf (x .head) .max)) rest (put g x rest) (λ _. M .right (m (x .items)) (m rest))
-      (λ _. branch C (splices g (x .head)) (x .items then rest) (item (x .head) (x .items) rest) (λ _. M .both (x .items) rest) (λ _. rw (M .first (x .head) (x .items) rest) (le-refl _)))
+      keep-cases (λ (y : Items). m y ≤ c (m (x .items)) (m rest)) g x rest (λ _. M .right (m (x .items)) (m rest)) (λ _. M .both (x .items) rest) (λ _ _. rw (M .first (x .head) (x .items) rest) (le-refl _))
 
   closed-least : (g : Head) (t : Items) → m (closed g t .items) ≤ m t
   closed-least g none = le-refl _

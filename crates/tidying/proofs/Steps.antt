@@ -7,8 +7,8 @@ use Rattle.particle.specs.declared.MaxOccurs.{MaxOccurs}
 use Rattle.particle.specs.declared.MaxOccurs.the-variants.{Bounded, Unbounded}
 use Rattle.particle.specs.declared.Occurs.{Occurs}
 use Rattle.particle.specs.Occurs.{isZero, isOnce}
-use Rattle.particle.specs.Tree.{Head, element, wildcard, sequence, choice, all, Items, none, item, Particle, fold, _then_}
-use Rattle.tidying.specs.Tidy.{splices, takesPair, closed, settle}
+use Rattle.particle.specs.Tree.{Head, element, wildcard, sequence, choice, all, Items, none, item, Particle, pairOf, fold, _then_}
+use Rattle.tidying.specs.Tidy.{splices, put, keep, takesPair, closed, settle}
 use Rattle.tidying.specs.TidyTree.{Group}
 
 -- what holds on either side of a test holds of what it chooses
@@ -31,6 +31,12 @@ settle-cases C (wildcard l p) k t f g = f (λ e. e)
 settle-cases C (sequence p) k t f g = g tt
 settle-cases C (choice p) k t f g = g tt
 settle-cases C (all p) k t f g = f (λ e. e)
+
+-- of an item a group keeps nothing, its items, or the item itself
+pub keep-cases {ℓ} : (C : Items → Type ℓ) (g : Head) (x : Particle) (rest : Items) → (isZero (pairOf (x .head) .max) ≡ true → C rest)
+    → (splices g (x .head) ≡ true → C (x .items then rest)) → (isZero (pairOf (x .head) .max) ≡ false → splices g (x .head) ≡ false → C (item (x .head) (x .items) rest)) → C (keep g x rest)
+keep-cases C g x rest dropped replaced kept =
+    branch C (isZero (pairOf (x .head) .max)) rest (put g x rest) dropped (λ z. branch C (splices g (x .head)) (x .items then rest) (item (x .head) (x .items) rest) replaced (kept z))
 
 -- an item that its group replaces by its items is a (1,1) sequence in a sequence, or a (1,1) choice in a choice
 pub splices-cases {ℓ} : (C : Head → Head → Type ℓ) → ((q p : Occurs) → isOnce p ≡ true → C (sequence q) (sequence p))

@@ -16,9 +16,9 @@ use Rattle.language.proofs.Words.{_⊆_, followed-mono, in-order-joined, in-ord
 use Rattle.language.proofs.Rounds.{rounds-each, once-same}
 use Rattle.language.proofs.Wider.{OneOrNone, one-or-none, widerFrom, Wider, wider-same}
 use Rattle.language.proofs.Emptiness.{optional-wider}
-use Rattle.tidying.specs.Tidy.{splices, put, keep, takesPair, lone, closed, settle, tidyItems, tidy}
+use Rattle.tidying.specs.Tidy.{splices, keep, takesPair, lone, closed, settle, tidyItems, tidy}
 use Rattle.tidying.specs.TidyTree.{Group}
-use Rattle.tidying.proofs.Steps.{branch, group-cases, settle-cases, splices-cases, takes-cases, zero-is, fold-then}
+use Rattle.tidying.proofs.Steps.{branch, group-cases, settle-cases, keep-cases, splices-cases, takes-cases, zero-is, fold-then}
 use Rattle.tidying.proofs.Premises.{item-some, then-some, tidy-ordered}
 
 -- a round of a sequence or choice, and a round where an empty choice has an empty one
@@ -59,30 +59,27 @@ module _ (names : Names) where
   in-order-keep : (p : Occurs) (x : Particle) (rest : Items) → Ordered (x .head) (x .items) → InOrder (wide (keep (sequence p) x rest)) ⊆ Followed (Wider names x) (InOrder (wide rest))
   unfolding fold Wider
   in-order-keep p x rest o =
-      branch (λ (y : Items). InOrder (wide y) ⊆ Followed (Wider names x) (InOrder (wide rest))) (isZero (pairOf (x .head) .max)) rest (put (sequence p) x rest)
+      keep-cases (λ (y : Items). InOrder (wide y) ⊆ Followed (Wider names x) (InOrder (wide rest))) (sequence p) x rest
       (λ z w y. record { front = []; back = w; whole = refl; left = zero-gives x o z; right = y })
-      (λ _. branch (λ (y : Items). InOrder (wide y) ⊆ Followed (Wider names x) (InOrder (wide rest))) (splices (sequence p) (x .head)) (x .items then rest) (item (x .head) (x .items) rest)
       (λ e w y. followed-mono (spliced (wide (x .items)) (sequence p) (x .head) e) (λ u v. v) w (in-order-joined (wide (x .items)) (wide rest) w .0 (subst (λ (Ws : List Words). InOrder Ws w) (fold-then (widerFrom names) (x .items) rest) y)))
-      (λ _ w y. y))
+      (λ _ _ w y. y)
 
   one-of-keep : (p : Occurs) (x : Particle) (rest : Items) → OneOf (wide (keep (choice p) x rest)) ⊆ (λ w. Wider names x w ⊎ OneOf (wide rest) w)
   unfolding fold Wider
   one-of-keep p x rest =
-      branch (λ (y : Items). OneOf (wide y) ⊆ (λ w. Wider names x w ⊎ OneOf (wide rest) w)) (isZero (pairOf (x .head) .max)) rest (put (choice p) x rest)
+      keep-cases (λ (y : Items). OneOf (wide y) ⊆ (λ w. Wider names x w ⊎ OneOf (wide rest) w)) (choice p) x rest
       (λ _ w y. inr y)
-      (λ _. branch (λ (y : Items). OneOf (wide y) ⊆ (λ w. Wider names x w ⊎ OneOf (wide rest) w)) (splices (choice p) (x .head)) (x .items then rest) (item (x .head) (x .items) rest)
       (λ e w y. ⊎-elim (λ a. inl (spliced (wide (x .items)) (choice p) (x .head) e w a)) inr (one-of-joined (wide (x .items)) (wide rest) w .0 (subst (λ (Ws : List Words). OneOf Ws w) (fold-then (widerFrom names) (x .items) rest) y)))
-      (λ _ w y. y))
+      (λ _ _ w y. y)
 
   -- where a choice keeps nothing, its first item gives the empty word
   none-kept : (p : Occurs) (x : Particle) (rest : Items) → Ordered (x .head) (x .items) → keep (choice p) x rest ≡ none → Wider names x []
   unfolding fold Wider
   none-kept p x rest o =
-      branch (λ (y : Items). y ≡ none → Wider names x []) (isZero (pairOf (x .head) .max)) rest (put (choice p) x rest)
+      keep-cases (λ (y : Items). y ≡ none → Wider names x []) (choice p) x rest
       (λ z _. zero-gives x o z)
-      (λ _. branch (λ (y : Items). y ≡ none → Wider names x []) (splices (choice p) (x .head)) (x .items then rest) (item (x .head) (x .items) rest)
-      (λ e n. emptied (x .items) (choice p) (x .head) e n)
-      (λ _ n. absurd (item-some (x .head) (x .items) rest n)))
+      (emptied (x .items) (choice p) (x .head))
+      (λ _ _ n. absurd (item-some (x .head) (x .items) rest n))
     where
       emptied : (k : Items) (g h : Head) → splices g h ≡ true → k then rest ≡ none → widerFrom names h (wide k) []
       emptied none = splices-cases (λ (g h : Head). none then rest ≡ none → widerFrom names h (wide none) []) (λ q p o n. once-same o [] .1 refl) (λ q p o n. once-same o [] .1 refl)

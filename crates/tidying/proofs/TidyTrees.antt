@@ -7,7 +7,7 @@ use Rattle.particle.specs.Occurs.{isZero, isOnce}
 use Rattle.particle.specs.Tree.{Head, choice, Items, none, item, Particle, pairOf, countI, _then_}
 use Rattle.tidying.specs.Tidy.{splices, put, keep, takesPair, lone, closed, settle, tidyItems, tidy}
 use Rattle.tidying.specs.TidyTree.{Group, EachItem, TidyGroup, TidyItems, TidyTree}
-use Rattle.tidying.proofs.Steps.{branch, settle-cases, splices-cases, takes-cases}
+use Rattle.tidying.proofs.Steps.{branch, settle-cases, keep-cases, splices-cases, takes-cases}
 
 each-then : (Q : Head → Type 0) (x y : Items) → EachItem Q x → EachItem Q y → EachItem Q (x then y)
 unfolding _then_
@@ -43,11 +43,10 @@ inner-kept g h k e = splices-cases (λ (g h : Head). TidyItems (item h k none) �
 keep-kept : (g : Head) (x : Particle) (rest : Items) → TidyTree x → KeptTidy g rest → KeptTidy g (keep g x rest)
 unfolding TidyItems
 keep-kept g x rest a s =
-    branch (KeptTidy g) (isZero (pairOf (x .head) .max)) rest (put g x rest) (λ _. s)
-    (λ z. branch (KeptTidy g) (splices g (x .head)) (x .items then rest) (item (x .head) (x .items) rest)
+    keep-cases (KeptTidy g) g x rest (λ _. s)
     (λ e. let i = inner-kept g (x .head) (x .items) e a in
     record { tidyOnes = tidy-then (x .items) rest (i .tidyOnes) (s .tidyOnes); noZero = each-then _ (x .items) rest (i .noZero) (s .noZero); noOwn = each-then _ (x .items) rest (i .noOwn) (s .noOwn) })
-    (λ e. record { tidyOnes = (a .0, s .tidyOnes); noZero = (z, s .noZero); noOwn = (e, s .noOwn) }))
+    (λ z e. record { tidyOnes = (a .0, s .tidyOnes); noZero = (z, s .noZero); noOwn = (e, s .noOwn) })
 
 -- a group with what it kept, where nothing is left to close
 tidy-group : (g : Head) (t : Items) → KeptTidy g t → (isOnce (pairOf g) ≡ true → ¬ (countI t ≡ 1)) → ((h : Head) (k : Items) → t ≡ item h k none → takesPair g h ≡ false) → TidyGroup g t × TidyItems t
