@@ -6,6 +6,7 @@ use mathlib.Core.Path.{_≡_, refl, ap, sym, _∙_, subst}
 use Prim.Native.Nat.{ℕ, zero, suc, _≤_}
 use native.Mathlib.Omega.{arith}
 use borrow.Author.Tests.{eqb-true, eq-eqb}
+use Rattle.particle.specs.declared.MaxOccurs.the-variants.{Bounded}
 use Rattle.particle.specs.declared.Occurs.{Occurs}
 use Rattle.particle.specs.Tree.{Head, element, wildcard, sequence, choice, all, Items, none, item, Particle, pairOf, fold}
 use Rattle.particle.proofs.Folds.{Matches, ended, next, fold-matches}
@@ -50,6 +51,12 @@ module _ (names : Names) where
   optional-wider (sequence p) Ws t = no-round (eqb-true (p .min) 0 t)
   optional-wider (choice p) Ws t = no-round (eqb-true (p .min) 0 t)
   optional-wider (all p) Ws t = no-round (eqb-true (p .min) 0 t)
+
+  -- one of maximum 0 neither, its pair being in order
+  pub zero-wider : (h : Head) (Ws : List Words) → AtMost (pairOf h .min) (pairOf h .max) → pairOf h .max ≡ Bounded 0 → widerFrom names h Ws []
+  zero-wider h Ws o e =
+      let least : AtMost (pairOf h .min) (Bounded 0) = subst (AtMost (pairOf h .min)) e o in
+      optional-wider h Ws (eq-eqb (pairOf h .min) 0 (omega arith))
 
   -- the words of each item
   abbrev each : Items → List Words

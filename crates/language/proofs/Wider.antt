@@ -1,7 +1,6 @@
 -- What a tree allows if an empty choice has an empty round, as `emptiable` counts it: what the rules of the mark take a base for. A tree without an empty choice allows just this. Assumes nothing.
 use mathlib.Core.List.{List, [], _∷_}
-use mathlib.Core.Path.{_≡_, refl, ap, _∙_, subst}
-use Prim.Native.Nat.{ℕ}
+use mathlib.Core.Path.{_≡_, refl, ap, _∙_}
 use Rattle.particle.specs.Tree.{Head, element, wildcard, sequence, choice, all, Items, none, item, Particle, fold}
 use Rattle.language.specs.Language.{Words, InOrder, OneOf, AnyOrder, Rounds, Name, Names, wordsFrom, Allows}
 use Rattle.language.specs.Premises.{Every, Throughout, NoEmptyChoice}

@@ -5,7 +5,6 @@ use mathlib.Core.Logic.{⊎-elim}
 use mathlib.Core.Path.{_≡_, refl, sym, subst}
 use Prim.Native.Nat.{ℕ, zero, suc}
 use native.Mathlib.Omega.{arith}
-use borrow.Author.Tests.{eq-eqb}
 use Rattle.particle.specs.declared.MaxOccurs.the-variants.{Bounded}
 use Rattle.particle.specs.declared.Occurs.{Occurs}
 use Rattle.particle.specs.Occurs.{isZero}
@@ -18,7 +17,7 @@ use Rattle.language.proofs.Words.{_⊆_}
 use Rattle.language.proofs.Rounds.{Many}
 use Rattle.language.proofs.Premises.{throughout-map, throughout-both}
 use Rattle.language.proofs.Wider.{widerFrom, Wider}
-use Rattle.language.proofs.Emptiness.{optional-wider, emptiable-wider}
+use Rattle.language.proofs.Emptiness.{zero-wider, emptiable-wider}
 use Rattle.tidying.specs.Tidy.{tidy}
 use Rattle.tidying.proofs.Steps.{zero-is}
 use Rattle.tidying.proofs.Premises.{tidy-heads, tidy-ordered}
@@ -49,19 +48,13 @@ zero-allows names (sequence p) Ws e = rounds-none e
 zero-allows names (choice p) Ws e = rounds-none e
 zero-allows names (all p) Ws e = rounds-none e
 
--- and, its pair being in order, does allow it
-zero-optional : (names : Names) (h : Head) (Ws : List Words) → AtMost (pairOf h .min) (pairOf h .max) → pairOf h .max ≡ Bounded 0 → widerFrom names h Ws []
-zero-optional names h Ws o e =
-    let least : AtMost (pairOf h .min) (Bounded 0) = subst (AtMost (pairOf h .min)) e o in
-    optional-wider names h Ws (eq-eqb (pairOf h .min) 0 (omega arith))
-
 early-sound : (derived base : Names) (d b : Particle) → Throughout Ordered b → earlyPass d b ≡ true → Allows derived d ⊆ Wider base b
 unfolding Allows Wider
 early-sound derived base d b o e w x =
     let (zd, f) = and-true (isZero (pairOf (d .head) .max)) (isZero (pairOf (b .head) .max) || emptiable b) e in
     let nothing : w ≡ [] = zero-allows derived (d .head) (fold (wordsFrom derived) (d .items)) (zero-is (pairOf (d .head) .max) zd) w x in
     subst (Wider base b) (sym nothing)
-    (⊎-elim (λ zb. zero-optional base (b .head) (fold (widerFrom base) (b .items)) (o .0) (zero-is (pairOf (b .head) .max) zb)) (emptiable-wider base b o) (or-true (isZero (pairOf (b .head) .max)) (emptiable b) f))
+    (⊎-elim (λ zb. zero-wider base (b .head) (fold (widerFrom base) (b .items)) (o .0) (zero-is (pairOf (b .head) .max) zb)) (emptiable-wider base b o) (or-true (isZero (pairOf (b .head) .max)) (emptiable b) f))
 
 tidied-sound : (L : Leaves) (T : Tables) (derived base : Names) → NamesAmong L T derived base → Sound L derived base (markTidied L T)
 unfolding markTidied

@@ -1,5 +1,5 @@
 -- A base that may not occur (document 02 §5): a base sequence or choice of maximum 0 lets no element through, and where its clause stands in the second reading makes no difference. Assumes nothing.
-use mathlib.Core.Bool.{Bool, true, false, not, _&&_, and-false, false≢true}
+use mathlib.Core.Bool.{Bool, true, false, not, and-false, false≢true}
 use mathlib.Core.Path.{_≡_, refl, sym}
 use Prim.Native.Nat.{ℕ, zero, suc}
 use native.Mathlib.Omega.{arith}
@@ -9,12 +9,12 @@ use Rattle.particle.specs.declared.MaxOccurs.{MaxOccurs}
 use Rattle.particle.specs.declared.MaxOccurs.the-variants.{Bounded, Unbounded}
 use Rattle.particle.specs.declared.Occurs.{Occurs}
 use Rattle.particle.specs.Occurs.{maxOk, rangeOk, exactly, isZero}
-use Rattle.particle.specs.Tree.{Head, element, sequence, choice, Items, none, item}
+use Rattle.particle.specs.Tree.{element, sequence, choice, Items, none, item}
 use Rattle.rules.specs.Verdicts.{Mark, passes, undecided, fails, Leaves, Tables}
 use Rattle.rules.specs.Combine.{_orFails_, _andThen_, combineReadings}
 use Rattle.rules.specs.Walk.{_⟦_⟧}
 use Rattle.rules.specs.Rule.{baseOnce, rule}
-use Rattle.rules.specs.Mark.{restrict, markTidied}
+use Rattle.rules.specs.Mark.{markTidied}
 use Rattle.rules.proofs.Unfolds.{mark-unfolds}
 
 -- The clause -------------------------------------------------------------------------------

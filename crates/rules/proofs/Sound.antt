@@ -24,7 +24,7 @@ use Rattle.language.proofs.AtMost.{at-most}
 use Rattle.language.proofs.Words.{_⊆_, in-order-one, one-of-one}
 use Rattle.language.proofs.Premises.{every-map}
 use Rattle.language.proofs.Rounds.{Many, many-many, rounds-mono, rounds-each, one-round, only-round, names-length}
-use Rattle.language.proofs.Wider.{one-or-none, widerFrom, Wider}
+use Rattle.language.proofs.Wider.{one-or-none, Wider}
 use Rattle.language.proofs.Joining.{AllWithin, one-of-within, in-order-many, in-order-within, rounds-within, any-order-within, names-closed}
 use Rattle.language.proofs.Lengths.{Within, exact-length}
 use Rattle.rules.specs.Verdicts.{Mark, Leaves, Tables}

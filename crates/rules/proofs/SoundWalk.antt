@@ -11,7 +11,7 @@ use Rattle.language.specs.Premises.{Every, Throughout, Ordered}
 use Rattle.language.proofs.Words.{_⊆_, followed-mono}
 use Rattle.language.proofs.Joining.{AllWithin}
 use Rattle.language.proofs.Premises.{throughout-map}
-use Rattle.language.proofs.Wider.{widerFrom, Wider}
+use Rattle.language.proofs.Wider.{Wider}
 use Rattle.language.proofs.Emptiness.{emptiable-wider}
 use Rattle.rules.specs.Verdicts.{Mark, Leaves}
 use Rattle.rules.specs.Walk.{_⟦_⟧, Judge, leftOver, recurseOrdered, alternatives, eachMember}

@@ -1,21 +1,17 @@
 -- What tidying makes of a base: where pairs are in order and no choice is empty, the tidied tree allows no more than the tree, even if a choice that tidying has emptied counts as the rules count it. A zero maximum may be anywhere. Assumes nothing.
 use mathlib.Core.Bool.{true}
-use mathlib.Core.List.{List, [], _∷_, _++_}
+use mathlib.Core.List.{List, [], _∷_}
 use mathlib.Core.Logic.{_⊎_, inl, inr, ⊎-elim}
 use mathlib.Core.Path.{_≡_, refl, sym, subst}
-use Prim.Native.Nat.{ℕ}
-use native.Mathlib.Omega.{arith}
-use borrow.Author.Tests.{eq-eqb}
-use Rattle.particle.specs.declared.MaxOccurs.the-variants.{Bounded}
 use Rattle.particle.specs.declared.Occurs.{Occurs}
 use Rattle.particle.specs.Occurs.{isZero, isOnce}
 use Rattle.particle.specs.Tree.{Head, element, wildcard, sequence, choice, all, Items, none, item, Particle, pairOf, fold, _then_}
-use Rattle.language.specs.Language.{Words, Followed, InOrder, OneOf, AtMost, Names, wordsFrom, Allows}
+use Rattle.language.specs.Language.{Words, Followed, InOrder, OneOf, Names, wordsFrom, Allows}
 use Rattle.language.specs.Premises.{Every, Throughout, Ordered, NoEmptyChoice}
 use Rattle.language.proofs.Words.{_⊆_, followed-mono, in-order-joined, in-order-one, one-of-joined}
 use Rattle.language.proofs.Rounds.{rounds-each, once-same}
 use Rattle.language.proofs.Wider.{OneOrNone, one-or-none, widerFrom, Wider, wider-same}
-use Rattle.language.proofs.Emptiness.{optional-wider}
+use Rattle.language.proofs.Emptiness.{zero-wider}
 use Rattle.tidying.specs.Tidy.{splices, keep, takesPair, lone, closed, settle, tidyItems, tidy}
 use Rattle.tidying.specs.TidyTree.{Group}
 use Rattle.tidying.proofs.Steps.{branch, group-cases, settle-cases, keep-cases, splices-cases, takes-cases, zero-is, fold-then}
@@ -48,9 +44,7 @@ module _ (names : Names) where
   -- an item that is dropped
   zero-gives : (x : Particle) → Ordered (x .head) (x .items) → isZero (pairOf (x .head) .max) ≡ true → Wider names x []
   unfolding Wider
-  zero-gives x o z =
-      let least : AtMost (pairOf (x .head) .min) (Bounded 0) = subst (AtMost (pairOf (x .head) .min)) (zero-is (pairOf (x .head) .max) z) o in
-      optional-wider names (x .head) (wide (x .items)) (eq-eqb (pairOf (x .head) .min) 0 (omega arith))
+  zero-gives x o z = zero-wider names (x .head) (wide (x .items)) o (zero-is (pairOf (x .head) .max) z)
 
   -- an item that is replaced by its items
   spliced : (Ws : List Words) (g h : Head) → splices g h ≡ true → round g Ws ⊆ widerFrom names h Ws
