@@ -4,7 +4,7 @@ use mathlib.Core.List.{List}
 use mathlib.Core.Path.{_≡_, refl, ap, sym, _∙_}
 use Prim.Native.Nat.{ℕ, zero, suc, _≤_, _<_}
 use native.Mathlib.Omega.{arith}
-use lib.Dec.{leb, eqb}
+use lib.Dec.{leb}
 use borrow.Author.Tests.{le-leb, lt-leb, ne-eqb}
 use Rattle.particle.specs.declared.MaxOccurs.{MaxOccurs}
 use Rattle.particle.specs.declared.MaxOccurs.the-variants.{Bounded, Unbounded}
@@ -82,7 +82,7 @@ one-within q = ap (λ (c : Bool). leb (q .min) 1 && c) (go (q .max))
 pub once-readings : (q : Occurs) (r k : ℕ) (m n : Mark) → combineReadings (rangeOk (exactly 1) q orFails r andThen m) (baseOnce q k andThen n) ≡ rangeOk (exactly 1) q orFails r andThen combineReadings m n
 once-readings q r k m n = rw (one-within q) (go (leb (q .min) 1) (not (isZero (q .max))))
   where
-    go : (low some : Bool) → combineReadings ((low && some) orFails r andThen m) ((some orFails 125 andThen low orFails k) andThen n) ≡ (low && some) orFails r andThen combineReadings m n
+    go : (low some : Bool) → combineReadings ((low && some) orFails r andThen m) ((low orFails k andThen some orFails 125) andThen n) ≡ (low && some) orFails r andThen combineReadings m n
     go true true = refl
     go true false = refl
     go false true = refl
@@ -128,16 +128,18 @@ module _ {m a first : Mark} (q : Occurs) (k : ℕ) (v : Verdict) (f : a ≡ firs
   pub second-reads : {b rest : Mark} → m ≡ combineReadings a b → b ≡ rest → v ≡ Ok → m ≡ combineReadings first (baseOnce q k andThen rest)
   second-reads {b} {rest} e h o = e ∙ rw f (ap (combineReadings first) (after-pass rest g o h))
 
--- The base's own pair, as the code asks it: z is what it finds of the maximum.
-pub bounded-zero : {m : MaxOccurs} {n : ℕ} → m ≡ Bounded n → eqb n 0 ≡ isZero m
-bounded-zero e = rw e
+-- The base's own pair, as the code asks it.
+module _ (q : Occurs) (k : ℕ) where
+  pub pair-required : 1 < q .min → fails k ≡ baseOnce q k
+  pair-required l = rw (lt-leb (q .min) 1 l)
 
-module _ (q : Occurs) (k : ℕ) {z : Bool} (e : z ≡ isZero (q .max)) where
-  pub pair-zero : z ≡ true → fails 125 ≡ baseOnce q k
-  pair-zero t = rw (← e, t)
+  module _ (l : q .min ≤ 1) where
+    pub pair-unbounded : q .max ≡ Unbounded → passes ≡ baseOnce q k
+    pair-unbounded e = rw (le-leb (q .min) 1 l, e)
 
-  pub pair-required : z ≡ false → 1 < q .min → fails k ≡ baseOnce q k
-  pair-required n l = rw (← e, n, lt-leb (q .min) 1 l)
+    module _ {m : ℕ} (e : q .max ≡ Bounded m) where
+      pub pair-zero : m ≡ 0 → fails 125 ≡ baseOnce q k
+      pair-zero z = rw (le-leb (q .min) 1 l, e, z)
 
-  pub pair-once : z ≡ false → q .min ≤ 1 → passes ≡ baseOnce q k
-  pair-once n l = rw (← e, n, le-leb (q .min) 1 l)
+      pub pair-some : ¬ (m ≡ 0) → passes ≡ baseOnce q k
+      pair-some z = rw (le-leb (q .min) 1 l, e, ne-eqb m 0 z)

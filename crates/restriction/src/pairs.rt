@@ -1,7 +1,7 @@
 // Kind numbers and occurrence pairs, as the rules take them.
 ghost use mathlib.Core.Path.{_≡_};
 ghost use Prim.Native.Nat.{_≤_};
-ghost use Rattle.particle.specs.Occurs.{exactly, isZero};
+ghost use Rattle.particle.specs.Occurs.{exactly};
 ghost use Rattle.particle.specs.Tree.{headOf, pairOf};
 ghost use Rattle.particle.specs.Encode.{kindNumber};
 ghost use Rattle.totals.specs.Total.{cutMax};
@@ -62,28 +62,23 @@ pub fn base_range(r: Record, any: bool) -> Occurs
     particle::range(r)
 }
 
-// Whether a maximum is 0.
-fn is_zero(m: MaxOccurs) -> bool
-    ensures { λ b. ⌜ b ≡ isZero m ⌝ }
-{
-    match m {
-        MaxOccurs::Unbounded => false,
-        MaxOccurs::Bounded(n) => n == 0,
-    }
-}
-
-// What the second reading of an element asks of the base group's own pair: a maximum that is not 0, and a minimum of at most 1.
+// What the second reading of an element asks of the base group's own pair: a minimum of at most 1, and a maximum that is not 0.
 pub fn base_once(q: Occurs, required: Reason) -> Verdict
     ensures { λ r. ⌜ markOf r ≡ baseOnce q (reasonNumber required) ⌝ }
 {
-    let qmax = q.max;
-    if is_zero(qmax) {
-        return Verdict::Violation(Reason::BaseMayNotOccur);
-    }
     if 1 < q.min {
         return Verdict::Violation(required);
     }
-    Verdict::Ok
+    let qmax = q.max;
+    match qmax {
+        MaxOccurs::Unbounded => Verdict::Ok,
+        MaxOccurs::Bounded(m) => {
+            if m == 0 {
+                return Verdict::Violation(Reason::BaseMayNotOccur);
+            }
+            Verdict::Ok
+        }
+    }
 }
 
 // A maximum times an item count; unbounded stays unbounded.

@@ -25,16 +25,16 @@ reason-hidden passes r s = refl
 reason-hidden undecided r s = refl
 reason-hidden (fails q) r s = refl
 
--- Asked after the base minimum, the clause gives the same mark: no sheet tells the two apart.
+-- Asked before the base minimum, the clause gives the same mark: no sheet tells the two apart.
 pub clause-order : (m : Mark) (q : Occurs) (k : ℕ) (items : Mark)
-    → combineReadings m (baseOnce q k andThen items) ≡ combineReadings m (leb (q .min) 1 orFails k andThen not (isZero (q .max)) orFails 125 andThen items)
+    → combineReadings m (baseOnce q k andThen items) ≡ combineReadings m (not (isZero (q .max)) orFails 125 andThen leb (q .min) 1 orFails k andThen items)
 clause-order m q k items = go (leb (q .min) 1) (not (isZero (q .max)))
   where
-    go : (low some : Bool) → combineReadings m ((some orFails 125 andThen low orFails k) andThen items) ≡ combineReadings m (low orFails k andThen some orFails 125 andThen items)
+    go : (low some : Bool) → combineReadings m ((low orFails k andThen some orFails 125) andThen items) ≡ combineReadings m (some orFails 125 andThen low orFails k andThen items)
     go true true = refl
     go true false = refl
     go false true = refl
-    go false false = reason-hidden m 125 k
+    go false false = reason-hidden m k 125
 
 -- The ruling -------------------------------------------------------------------------------
 
@@ -45,6 +45,11 @@ above-zero Unbounded (Bounded n) e f = refl
 above-zero (Bounded zero) (Bounded n) e f = absurd (false≢true (sym e))
 above-zero (Bounded (suc m)) (Bounded n) e f = lt-leb (suc m) n (omega (arith, eqb-true n 0 f))
 
+-- the second reading fails for one or the other
+both-fail : (low : Bool) (r k : ℕ) (items : Mark) → combineReadings (fails r) ((low orFails k andThen fails 125) andThen items) ≡ fails r
+both-fail true r k items = refl
+both-fail false r k items = refl
+
 module _ (L : Leaves) (T : Tables) (l : ℕ) (p q : Occurs) (k bi : Items) (e : isZero (p .max) ≡ false) (f : isZero (q .max) ≡ true) where
   outside : rangeOk p q ≡ false
   outside = rw (above-zero (p .max) (q .max) e f, and-false (leb (q .min) (p .min)))
@@ -53,6 +58,6 @@ module _ (L : Leaves) (T : Tables) (l : ℕ) (p q : Occurs) (k bi : Items) (e : 
   pub may-not-occur : (markTidied L T (element l p ⟦ k ⟧) (sequence q ⟦ bi ⟧) ≡ fails 105) × (markTidied L T (element l p ⟦ k ⟧) (choice q ⟦ bi ⟧) ≡ fails 106)
   unfolding markTidied rule
   may-not-occur = (
-    rw (e, mark-unfolds L T (element l p) k (sequence q) bi, mark-unfolds L T (sequence p) (item (element l (exactly 1)) k none) (sequence q) bi, outside, f),
-    rw (e, mark-unfolds L T (element l p) k (choice q) bi, mark-unfolds L T (choice p) (item (element l (exactly 1)) k none) (choice q) bi, outside, f),
+    rw (e, mark-unfolds L T (element l p) k (sequence q) bi, mark-unfolds L T (sequence p) (item (element l (exactly 1)) k none) (sequence q) bi, outside, f) (both-fail (leb (q .min) 1) 105 110 _),
+    rw (e, mark-unfolds L T (element l p) k (choice q) bi, mark-unfolds L T (choice p) (item (element l (exactly 1)) k none) (choice q) bi, outside, f) (both-fail (leb (q .min) 1) 106 112 _),
   )

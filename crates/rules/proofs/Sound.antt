@@ -47,8 +47,8 @@ one-most Unbounded n = tt
 second-passes : (q : Occurs) (k : ℕ) (m : Mark) → Passes (baseOnce q k andThen m) → (q .min ≤ 1) × AtMost 1 (q .max) × Passes m
 second-passes q k m t =
     let (s, u) = and-passes (baseOnce q k) m t in
-    let (z, h) = guard-passes (not (isZero (q .max))) 125 (leb (q .min) 1 orFails k) s in
-    (leb-true (q .min) 1 (test-passes (leb (q .min) 1) k h), one-most (q .max) z, u)
+    let (h, z) = guard-passes (leb (q .min) 1) k (not (isZero (q .max)) orFails 125) s in
+    (leb-true (q .min) 1 h, one-most (q .max) (test-passes (not (isZero (q .max))) 125 z), u)
 
 -- as many names as the word is long, and its length within a pair within q
 names-in-range : (S : ℕ → Type 0) (t q : Occurs) → rangeOk t q ≡ true → (w : List ℕ) → Within (length w) t → Rounds anyNumber (Name S) w → Rounds q (Name S) w

@@ -29,9 +29,9 @@ exactTimesCount p n = record { min = p .min * n; max = timesCountMax (p .max) n 
 abbrev pub timesCount : Occurs → ℕ → TotalRange
 timesCount p n = cut (exactTimesCount p n)
 
--- What the second reading of an element asks of the pair of a base sequence or choice: 'a base maximum of 0 now fails with reason 125' (document 02 §5), base minimum above 1 gives 110 or 112.
+-- What the second reading of an element asks of the pair of a base sequence or choice: base minimum above 1 gives 110 or 112; 'a base maximum of 0 now fails with reason 125' (document 02 §5).
 abbrev pub baseOnce : (q : Occurs) (required : ℕ) → Mark
-baseOnce q required = not (isZero (q .max)) orFails 125 andThen leb (q .min) 1 orFails required
+baseOnce q required = leb (q .min) 1 orFails required andThen not (isZero (q .max)) orFails 125
 
 -- One entry of the rule (`restrict` of the Rust): a derived tree of head d and items di against a base tree of head b and items bi.
 -- J marks what is below: items, and the groups in which an element is wrapped. The comments are document 01's list, and document 02 §5.
@@ -58,7 +58,7 @@ module _ (L : Leaves) (T : Tables) (J : Judge) where
   rule (all p) di (all q) bi = rangeOk p q orFails 107 andThen recurseUnordered L T di bi
   rule (sequence p) di (all q) bi = rangeOk p q orFails 118 andThen recurseUnordered L T di bi
   -- Element, sequence or choice: first reading, the element's pair moved to a group of the base's kind holding it once.
-  -- Second reading: base maximum 0 gives 125 (document 02 §5); base minimum above 1 gives 110 (sequence) or 112 (choice); otherwise the ordered walk over the one element, or any alternative (none 111).
+  -- Second reading: base minimum above 1 gives 110 (sequence) or 112 (choice), base maximum 0 gives 125 (document 02 §5); otherwise the ordered walk over the one element, or any alternative (none 111).
   rule (element l p) di (sequence q) bi =
       combineReadings (J (sequence p ⟦ item (element l (exactly 1)) di none ⟧) (sequence q ⟦ bi ⟧))
       (baseOnce q 110 andThen recurseOrdered J false (item (element l p) di none) bi)
