@@ -18,15 +18,16 @@ use Rattle.particle.proofs.Laws.{tree-is, row-is, items-shorter}
 use Rattle.particle.proofs.Runs.{items-run}
 use Rattle.totals.specs.Total.{total, totalOk}
 use Rattle.rules.specs.Verdicts.{Mark, fails, Leaves, Tables}
-use Rattle.rules.specs.Combine.{_orFails_, _andThen_, combineReadings}
+use Rattle.rules.specs.Combine.{_orFails_, _andThen_}
 use Rattle.rules.specs.Walk.{_⟦_⟧, Judge, recurseOrdered, alternatives, eachMember}
-use Rattle.rules.specs.Rule.{anyNumber, timesCount, baseOnce, rule}
+use Rattle.rules.specs.Rule.{anyNumber, timesCount, rule}
 use Rattle.rules.proofs.Unfolds.{mark-unfolds}
 use Rattle.verdicts.specs.declared.Verdict.{Verdict}
 use Rattle.verdicts.specs.Paper.{leavesOf, tablesOf}
 use Rattle.verdicts.specs.Reasons.{markOf}
 use Rattle.verdicts.proofs.Marks.{NotOk, ended}
 use Rattle.restriction.specs.Views.{onceHead, asOnce, eachOnce, anyHead, asAny, judge}
+use Rattle.restriction.specs.Marks.{sequenceMark, choiceMark}
 use Rattle.restriction.proofs.Heads.{head-again, once-same, any-same, once-again, any-again, once-never}
 use Rattle.restriction.proofs.Parts.{row-count, weight}
 use Rattle.restriction.proofs.Table.{NoneOf, keys, other-kinds}
@@ -41,17 +42,17 @@ pub record Side (seen : Head → Head) (t : List ℕ) (r : Record) (p : Occurs) 
   pub small : k ≤ 4
 
 module _ {seen : Head → Head} {t : List ℕ} {r : Record} {p : Occurs} {s : List ℕ} {k : ℕ} (S : Side seen t r p s k) where
-  side-tree : tree t ≡ headOf r ⟦ row (r .count) s ⟧
+  pub side-tree : tree t ≡ headOf r ⟦ row (r .count) s ⟧
   side-tree = tree-is (S .whole .row) ∙ rw (S .first, S .below)
 
   side-row : row 1 t ≡ item (headOf r) (row (r .count) s) none
   unfolding takeI
   side-row = row-is (S .whole .row) ∙ ap (λ (x : Particle). item (x .head) (x .items) none) side-tree
 
-  side-items : Run (r .count) s
+  pub side-items : Run (r .count) s
   side-items = rw (S .first, S .below) (items-run (S .whole))
 
-  side-shorter : length s < length t
+  pub side-shorter : length s < length t
   side-shorter = rw (S .below) (items-shorter (S .whole .row))
 
   -- the own head, by the kind number
@@ -67,12 +68,11 @@ pub record Sides (leaves tables : List ℕ) (n : ℕ) (once any : Bool) (d b : L
 module _ {leaves tables : List ℕ} {n : ℕ} {once any : Bool} {d b : List ℕ} {dr br : Record} {p q : Occurs} {ds bs : List ℕ} {dk bk m : ℕ}
     (S : Sides leaves tables n once any d b dr br p q ds bs dk bk m) where
   -- what the calls ask: less weight, and rows of trees
-  pub to-readings : (j : ℕ) → j < 5 → 5 * dk + bk ≡ j → (weight 4 d bs < m) × (Run 1 d × (Run (br .count) bs × (once ≡ true → p ≡ exactly 1)))
-  to-readings j low key = (omega (arith, S .weighs, side-shorter (S .base)), (S .derived .whole, (side-items (S .base), once-pair (omega arith))))
+  pub to-readings : (j : ℕ) → j < 5 → 5 * dk + bk ≡ j → (weight 5 d bs < m) × (Run 1 d × ((onceHead once (tree d .head) ≡ element (dr .leaf) p) × Run (br .count) bs))
+  to-readings j low key = (omega (arith, S .weighs, side-shorter (S .base)), (S .derived .whole, (rw (side-tree (S .derived)) (derived-element (omega arith)), side-items (S .base))))
     where
-      -- an element that counts once
-      once-pair : dk ≡ 0 → once ≡ true → p ≡ exactly 1
-      once-pair k o = S .derived .pair ∙ rw (own-head (S .derived), k, o)
+      derived-element : dk ≡ 0 → onceHead once (headOf dr) ≡ element (dr .leaf) p
+      derived-element k = once-again (dr .leaf) (rangeOf dr) once (dr .kind) ∙ rw (← S .derived .kind, ← S .derived .pair, k)
 
   pub to-derived : (weight 3 ds b < m) × (Run (dr .count) ds × Run 1 b)
   to-derived = (omega (arith, S .weighs, side-shorter (S .derived)), (side-items (S .derived), S .base .whole))
@@ -132,28 +132,27 @@ module _ {leaves tables : List ℕ} {n : ℕ} {once any : Bool} {d b : List ℕ}
 
   -- the element against a group: it stands alone, once and as it is seen
   module _ (k : dk ≡ 0) where
-    alone : eachOnce once (row 1 d) ≡ item (element (dr .leaf) p) di none
-    unfolding eachOnce
-    alone = ap (eachOnce once) (side-row (S .derived)) ∙ rw (derived-head, k)
+    alone : asOnce once (tree d) ≡ element (dr .leaf) p ⟦ di ⟧
+    alone = rw (side-tree (S .derived), derived-head, k)
 
-    alone-once : eachOnce true (row 1 d) ≡ item (element (dr .leaf) (exactly 1)) di none
-    unfolding eachOnce
-    alone-once = ap (eachOnce true) (side-row (S .derived)) ∙ rw (own-head (S .derived), k)
+    alone-once : asOnce true (tree d) ≡ element (dr .leaf) (exactly 1) ⟦ di ⟧
+    alone-once = rw (side-tree (S .derived), own-head (S .derived), k)
 
-    alone-tree : asOnce once (tree d) ≡ element (dr .leaf) p ⟦ di ⟧
-    alone-tree = rw (side-tree (S .derived), derived-head, k)
-
-  pub element-sequence-arm : 5 * dk + bk ≡ 2 → theMark ≡ combineReadings (rangeOk p q orFails 105 andThen recurseOrdered J false (eachOnce true (row 1 d)) bi) (baseOnce q 110 andThen recurseOrdered J false (eachOnce once (row 1 d)) bi)
+  pub element-sequence-arm : 5 * dk + bk ≡ 2 → theMark ≡ sequenceMark J p q (asOnce true (tree d)) (asOnce once (tree d)) bi
   unfolding rule
   element-sequence-arm key =
       let k = derived-kind 0 2 (omega arith) key in
-      arm 0 2 (omega arith) key ∙ rw (unwrap (sequence p) (sequence q) (item (element (dr .leaf) (exactly 1)) di none) bi, alone k, alone-once k)
+      arm 0 2 (omega arith) key
+      ∙ rw (unwrap (sequence p) (sequence q) (item (element (dr .leaf) (exactly 1)) di none) bi)
+      (ap (λ (x : Particle). sequenceMark J p q x (element (dr .leaf) p ⟦ di ⟧) bi) (sym (alone-once k)) ∙ ap (λ (y : Particle). sequenceMark J p q (asOnce true (tree d)) y bi) (sym (alone k)))
 
-  pub element-choice-arm : 5 * dk + bk ≡ 3 → theMark ≡ combineReadings (rangeOk p q orFails 106 andThen recurseOrdered J true (eachOnce true (row 1 d)) bi) (baseOnce q 112 andThen alternatives J 111 (asOnce once (tree d)) bi)
+  pub element-choice-arm : 5 * dk + bk ≡ 3 → theMark ≡ choiceMark J p q (asOnce true (tree d)) (asOnce once (tree d)) bi
   unfolding rule
   element-choice-arm key =
       let k = derived-kind 0 3 (omega arith) key in
-      arm 0 3 (omega arith) key ∙ rw (unwrap (choice p) (choice q) (item (element (dr .leaf) (exactly 1)) di none) bi, alone-tree k, alone-once k)
+      arm 0 3 (omega arith) key
+      ∙ rw (unwrap (choice p) (choice q) (item (element (dr .leaf) (exactly 1)) di none) bi)
+      (ap (λ (x : Particle). choiceMark J p q x (element (dr .leaf) p ⟦ di ⟧) bi) (sym (alone-once k)) ∙ ap (λ (y : Particle). choiceMark J p q (asOnce true (tree d)) y bi) (sym (alone k)))
 
   -- a derived group and a base element have their own pairs
   derived-own : (dk ≡ 0 → ⊥) → headOf dr ≡ headFrom dk (dr .leaf) p

@@ -1,9 +1,13 @@
 pub mod Parts
 pub mod Ranges
 pub mod Readings
+pub mod Once
+pub mod Standing
 pub mod Members
 pub mod LeftOver
 pub mod OrderedWalk
+pub mod Walks
 pub mod Heads
 pub mod Table
 pub mod Arms
+pub mod ElementArms

@@ -18,32 +18,32 @@ use Rattle.restriction.specs.Views.{asOnce, eachOnce}
 use Rattle.restriction.proofs.Parts.{cons, Part, part-start, part-next, first-tree, row-none, row-cons}
 
 -- no derived item is left
-lax-ends : (J : Judge) (bs : Items) → recurseOrdered J true none bs ≡ passes
+pub lax-ends : (J : Judge) (bs : Items) → recurseOrdered J true none bs ≡ passes
 unfolding recurseOrdered
 lax-ends J none = refl
 lax-ends J (item h k r) = refl
 
-strict-ends : (J : Judge) (bs : Items) → recurseOrdered J false none bs ≡ leftOver bs
+pub strict-ends : (J : Judge) (bs : Items) → recurseOrdered J false none bs ≡ leftOver bs
 unfolding recurseOrdered leftOver
 strict-ends J none = refl
 strict-ends J (item h k r) = refl
 
 -- one step, for a derived item x and a base item y
 module _ (J : Judge) (lax : Bool) (x y : Particle) (r s : Items) where
-  step-passes : J x y ≡ passes → recurseOrdered J lax (cons x r) (cons y s) ≡ recurseOrdered J lax r s
+  pub step-passes : J x y ≡ passes → recurseOrdered J lax (cons x r) (cons y s) ≡ recurseOrdered J lax r s
   unfolding recurseOrdered
   step-passes q = rw (recurseOrdered, q)
 
-  step-undecided : J x y ≡ undecided → recurseOrdered J lax (cons x r) (cons y s) ≡ undecided
+  pub step-undecided : J x y ≡ undecided → recurseOrdered J lax (cons x r) (cons y s) ≡ undecided
   unfolding recurseOrdered
   step-undecided q = rw (recurseOrdered, q)
 
   module _ {k : ℕ} (q : J x y ≡ fails k) where
-    step-skips : lax || emptiable y ≡ true → recurseOrdered J lax (cons x r) (cons y s) ≡ recurseOrdered J lax (cons x r) s
+    pub step-skips : lax || emptiable y ≡ true → recurseOrdered J lax (cons x r) (cons y s) ≡ recurseOrdered J lax (cons x r) s
     unfolding recurseOrdered
     step-skips h = rw (recurseOrdered, q, h)
 
-    step-fails : lax || emptiable y ≡ false → recurseOrdered J lax (cons x r) (cons y s) ≡ fails k
+    pub step-fails : lax || emptiable y ≡ false → recurseOrdered J lax (cons x r) (cons y s) ≡ fails k
     unfolding recurseOrdered
     step-fails h = rw (recurseOrdered, q, h)
 

@@ -48,9 +48,12 @@ module _ {n : ℕ} {t : List ℕ} (w : Run n t) (some : 0 < n) where
         let z : n ≡ suc (n - 1) = omega arith in
         ap (λ (k : ℕ). row k t) z ∙ (row-is (from-suc .row) ∙ rw e)
 
-    pub part-next : {whole : List ℕ} → length t ≤ length whole → Part (n - 1) s whole
-    part-next l = rw e (record { trees = later-run from-suc; within = omega (arith, later-shorter (from-suc .row)) })
+    pub later-trees : Run (n - 1) s
+    later-trees = rw e (later-run from-suc)
 
--- What falls with each call: five times the bytes left, and the steps to the next entry of the rule, four at most.
+    pub part-next : {whole : List ℕ} → length t ≤ length whole → Part (n - 1) s whole
+    part-next l = record { trees = later-trees; within = rw e (omega (arith, later-shorter (from-suc .row))) }
+
+-- What falls with each call: six times the bytes left, and the steps to the next entry of the rule, five at most.
 abbrev pub weight : ℕ → (d b : List ℕ) → ℕ
-weight k d b = 5 * (length d + length b) + k
+weight k d b = 6 * (length d + length b) + k

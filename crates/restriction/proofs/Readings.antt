@@ -1,6 +1,6 @@
 -- The two readings of an element that counts once: both ask the same of the base's pair and of its items. Assumes nothing.
 use mathlib.Core.Bool.{Bool, true, false, not, _&&_}
-use mathlib.Core.List.{List}
+use mathlib.Core.Logic.{_⊎_, ⊎-elim}
 use mathlib.Core.Path.{_≡_, refl, ap, sym, _∙_}
 use Prim.Native.Nat.{ℕ, zero, suc, _≤_, _<_}
 use native.Mathlib.Omega.{arith}
@@ -10,19 +10,16 @@ use Rattle.particle.specs.declared.MaxOccurs.{MaxOccurs}
 use Rattle.particle.specs.declared.MaxOccurs.the-variants.{Bounded, Unbounded}
 use Rattle.particle.specs.declared.Occurs.{Occurs}
 use Rattle.particle.specs.Occurs.{maxOk, rangeOk, exactly, isZero}
-use Rattle.particle.specs.Tree.{Items, none, item, Particle, tree}
-use Rattle.particle.specs.Rows.{row}
-use Rattle.particle.specs.Runs.{Run}
-use Rattle.particle.proofs.Laws.{row-one}
+use Rattle.particle.specs.Tree.{Items, none, item, Particle, single}
 use Rattle.rules.specs.Verdicts.{Mark, passes, undecided, fails}
 use Rattle.rules.specs.Combine.{_orFails_, _andThen_, _orElse_, combineReadings}
 use Rattle.rules.specs.Walk.{_⟦_⟧, Judge, recurseOrdered, alternatives}
 use Rattle.rules.specs.Rule.{baseOnce}
 use Rattle.verdicts.specs.declared.Verdict.{Verdict}
-use Rattle.verdicts.specs.declared.Verdict.the-variants.{Ok}
+use Rattle.verdicts.specs.declared.Verdict.the-variants.{Ok, Unknown, Violation}
 use Rattle.verdicts.specs.Reasons.{markOf}
-use Rattle.verdicts.proofs.Marks.{NotOk, ended, after-pass}
-use Rattle.restriction.specs.Views.{asOnce, eachOnce}
+use Rattle.verdicts.proofs.Marks.{NotOk, ended}
+use Rattle.restriction.specs.Marks.{sequenceMark, sequenceOnce, choiceMark, choiceOnce}
 use Rattle.restriction.proofs.Parts.{cons}
 
 -- two readings that agree
@@ -65,10 +62,6 @@ module _ (J : Judge) (x : Particle) where
       go undecided e = open-read (alternatives J s x b) ∙ alike s 120 b
       go (fails r) e = e
 
-once-alone : {d : List ℕ} → Run 1 d → eachOnce true (row 1 d) ≡ cons (asOnce true (tree d)) none
-unfolding eachOnce
-once-alone w = ap (eachOnce true) (row-one (w .row))
-
 -- (1,1) is within a pair just where the second reading finds nothing in the pair
 one-within : (q : Occurs) → rangeOk (exactly 1) q ≡ (leb (q .min) 1 && not (isZero (q .max)))
 one-within q = ap (λ (c : Bool). leb (q .min) 1 && c) (go (q .max))
@@ -88,45 +81,45 @@ once-readings q r k m n = rw (one-within q) (go (leb (q .min) 1) (not (isZero (q
     go false true = refl
     go false false = refl
 
--- the same as the rule has it, where the element counts once
-module _ (J : Judge) (b : Items) (p q : Occurs) {d : List ℕ} {once : Bool} (w : Run 1 d) (o : once ≡ true) (one : once ≡ true → p ≡ exactly 1) where
-  abbrev Sequence : Mark
-  Sequence = rangeOk p q orFails 105 andThen recurseOrdered J false (eachOnce true (row 1 d)) b
-
-  abbrev Choice : Mark
-  Choice = combineReadings (rangeOk p q orFails 106 andThen recurseOrdered J true (eachOnce true (row 1 d)) b) (baseOnce q 112 andThen alternatives J 111 (asOnce once (tree d)) b)
-
-  pub once-sequence : Sequence ≡ combineReadings Sequence (baseOnce q 110 andThen recurseOrdered J false (eachOnce once (row 1 d)) b)
+-- the same as the rule has it: an element that counts once has one mark
+module _ (J : Judge) (q : Occurs) (x : Particle) (b : Items) where
+  pub once-sequence : sequenceMark J (exactly 1) q x x b ≡ sequenceOnce J q x b
   once-sequence =
-      let walk = recurseOrdered J false (eachOnce true (row 1 d)) b in
-      rw (one o, o) (sym (once-readings q 105 110 walk walk ∙ ap (λ (m : Mark). rangeOk (exactly 1) q orFails 105 andThen m) (read-twice walk)))
+      let walk = recurseOrdered J false (single x) b in
+      once-readings q 105 110 walk walk ∙ ap (λ (m : Mark). rangeOk (exactly 1) q orFails 105 andThen m) (read-twice walk)
 
-  pub once-choice : Choice ≡ rangeOk p q orFails 106 andThen alternatives J 120 (asOnce once (tree d)) b
+  pub once-choice : choiceMark J (exactly 1) q x x b ≡ choiceOnce J q x b
   once-choice =
-      let walk = recurseOrdered J true (eachOnce true (row 1 d)) b in
-      let any = alternatives J 111 (asOnce true (tree d)) b in
-      rw (one o, o) (once-readings q 106 112 walk any ∙ ap (λ (m : Mark). rangeOk (exactly 1) q orFails 106 andThen m) (rw (once-alone w) (walk-and-alternatives J (asOnce true (tree d)) 111 b)))
+      once-readings q 106 112 (recurseOrdered J true (single x) b) (alternatives J 111 x b)
+      ∙ ap (λ (m : Mark). rangeOk (exactly 1) q orFails 106 andThen m) (walk-and-alternatives J x 111 b)
 
-  -- m is what the code answers, `ok` what it finds of the range
-  pub once-sequence-reads : {m : Mark} → m ≡ Sequence → m ≡ combineReadings Sequence (baseOnce q 110 andThen recurseOrdered J false (eachOnce once (row 1 d)) b)
-  once-sequence-reads a = a ∙ once-sequence
+-- what an element that counts once comes to, by the base's own pair: m where that passes
+abbrev ifPasses : Mark → (m : Mark) (r : ℕ) → Mark
+ifPasses passes m r = m
+ifPasses undecided m r = fails r
+ifPasses (fails k) m r = fails r
 
-  pub once-choice-reads : {m : Mark} {ok : Bool} → m ≡ alternatives J 120 (asOnce once (tree d)) b → ok ≡ rangeOk p q → ok ≡ true → m ≡ Choice
-  once-choice-reads a e y = a ∙ sym (once-choice ∙ rw (← e, y))
+once-range : (q : Occurs) (r k : ℕ) (m : Mark) → rangeOk (exactly 1) q orFails r andThen m ≡ ifPasses (baseOnce q k) m r
+once-range q r k m = rw (one-within q) (go (leb (q .min) 1) (not (isZero (q .max))))
+  where
+    go : (low some : Bool) → (low && some) orFails r andThen m ≡ ifPasses (low orFails k andThen some orFails 125) m r
+    go true true = refl
+    go true false = refl
+    go false true = refl
+    go false false = refl
 
-  pub once-choice-out : {ok : Bool} → ok ≡ rangeOk p q → ok ≡ false → fails 106 ≡ Choice
-  once-choice-out e n = sym (once-choice ∙ rw (← e, n))
+-- v is what the base's own pair says: it passes, or it rules out the second reading and the element that counts once
+module _ (q : Occurs) (r k : ℕ) (v : Verdict) (g : markOf v ≡ baseOnce q k) where
+  pub base-passes : v ≡ Ok → (m n : Mark) → (rangeOk (exactly 1) q orFails r andThen m ≡ m) × (baseOnce q k andThen n ≡ n)
+  base-passes o m n = (once-range q r k m ∙ rw (← g, o), rw (← g, o))
 
--- two readings as the code takes them: a is what the first gave, v what the base's own pair says, m what both come to
-pub first-passes : {v : Verdict} {first : Mark} (second : Mark) → markOf v ≡ first → v ≡ Ok → passes ≡ combineReadings first second
-first-passes second a q = rw (← a, q)
-
-module _ {m a first : Mark} (q : Occurs) (k : ℕ) (v : Verdict) (f : a ≡ first) (g : markOf v ≡ baseOnce q k) where
-  pub second-fails : (rest : Mark) → m ≡ combineReadings a (markOf v) → NotOk v → m ≡ combineReadings first (baseOnce q k andThen rest)
-  second-fails rest e t = e ∙ rw f (ap (combineReadings first) (ended rest v g t))
-
-  pub second-reads : {b rest : Mark} → m ≡ combineReadings a b → b ≡ rest → v ≡ Ok → m ≡ combineReadings first (baseOnce q k andThen rest)
-  second-reads {b} {rest} e h o = e ∙ rw f (ap (combineReadings first) (after-pass rest g o h))
+  pub base-fails : NotOk v → (m n : Mark) → (rangeOk (exactly 1) q orFails r andThen m ≡ fails r) × (baseOnce q k andThen n ≡ markOf v)
+  base-fails t m n = (once-range q r k m ∙ (rw (← g) (go v t)), sym (ended n v g t))
+    where
+      go : (v : Verdict) → NotOk v → ifPasses (markOf v) m r ≡ fails r
+      go Ok t = absurd (⊎-elim (λ (e : _≡_ {A = ℕ} 0 1). omega arith) (λ (e : _≡_ {A = ℕ} 0 2). omega arith) t)
+      go Unknown t = refl
+      go (Violation x) t = refl
 
 -- The base's own pair, as the code asks it.
 module _ (q : Occurs) (k : ℕ) where

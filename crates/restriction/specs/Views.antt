@@ -1,13 +1,25 @@
 -- What a call of `restrict` sees of its two trees: an element may count with the pair (1,1), a wildcard with the pair (0, unbounded). Assumes nothing: these are definitions.
-use mathlib.Core.Bool.{Bool, true, false}
+use mathlib.Core.Bool.{Bool, true, false, _&&_}
 use mathlib.Core.List.{List}
 use Prim.Native.Nat.{ℕ}
+use lib.Dec.{eqb}
+use Rattle.particle.specs.declared.MaxOccurs.{MaxOccurs}
+use Rattle.particle.specs.declared.MaxOccurs.the-variants.{Bounded, Unbounded}
+use Rattle.particle.specs.declared.Occurs.{Occurs}
 use Rattle.particle.specs.Occurs.{exactly}
 use Rattle.particle.specs.Tree.{Head, element, wildcard, sequence, choice, all, Items, none, item, Particle}
 use Rattle.rules.specs.Walk.{_⟦_⟧, Judge}
 use Rattle.rules.specs.Rule.{anyNumber}
 use Rattle.rules.specs.Mark.{restrict}
 use Rattle.verdicts.specs.Paper.{leavesOf, tablesOf}
+
+-- the pair (1,1): an element that has it, or that is wrapped, counts once
+abbrev pub isOnceMax : MaxOccurs → Bool
+isOnceMax (Bounded m) = eqb m 1
+isOnceMax Unbounded = false
+
+abbrev pub isOnce : Occurs → Bool
+isOnce p = eqb (p .min) 1 && isOnceMax (p .max)
 
 -- the first reading of an element: its pair is the wrapping group's, and it stands there once
 abbrev pub onceHead : (once : Bool) → Head → Head

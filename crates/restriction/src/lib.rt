@@ -1,25 +1,30 @@
 // The mark of two tidied trees: `restrict` selects a rule by the two kinds, and the rules ask it for the marks of items.
 // A part of a tree's bytes that starts at a record stands for the trees from there on; where several are meant, a count goes with it.
 // The trees are measured, so that a step from one item to the next takes no longer where the item is a large group.
+mod marks;
 mod pairs;
 mod rows;
 
 ghost use mathlib.Core.Path.{_≡_};
 ghost use mathlib.Core.Bool.{true, false};
 ghost use Prim.Native.Nat.{_≤_};
-ghost use Rattle.particle.specs.Occurs.{rangeOk, exactly};
+ghost use Rattle.particle.specs.Occurs.{rangeOk};
 ghost use Rattle.particle.specs.Record.{maxRecords};
-ghost use Rattle.particle.specs.Tree.{tree};
+ghost use Rattle.particle.specs.Tree.{element, tree};
 ghost use Rattle.particle.specs.Rows.{row};
 ghost use Rattle.particle.specs.Runs.{Run};
 ghost use Rattle.totals.specs.Total.{total, totalOk};
-ghost use Rattle.rules.specs.Combine.{_orFails_, _andThen_, combineReadings};
+ghost use Rattle.rules.specs.Combine.{_orFails_, _andThen_};
 ghost use Rattle.rules.specs.Walk.{recurseOrdered, alternatives, eachMember};
-ghost use Rattle.rules.specs.Rule.{timesCount, baseOnce};
+ghost use Rattle.rules.specs.Rule.{timesCount};
 ghost use Rattle.verdicts.specs.Reasons.{reasonNumber, markOf};
-ghost use Rattle.restriction.specs.Views.{asOnce, eachOnce, asAny, judge, rangeReason};
+ghost use Rattle.restriction.specs.Views.{onceHead, asOnce, eachOnce, asAny, judge, rangeReason};
+ghost use Rattle.restriction.specs.Marks.{BothMarks, sequenceOnce, sequenceMark, choiceOnce, choiceMark};
+use marks::Marks;
+use marks::Standing;
 use pairs::base_once;
 use pairs::base_range;
+use pairs::counts_once;
 use pairs::derived_range;
 use pairs::exactly_one;
 use pairs::kind_of;
@@ -84,8 +89,8 @@ fn by_kinds(
     match 5 * kind_of(dr) + kind_of(br) {
         0 => verdicts::element_restrict(dr.leaf, p, br.leaf, q, tables, n),
         1 => verdicts::element_wildcard(dr.leaf, p, br.leaf, q, tables, n),
-        2 => element_sequence(d, once, p, bs, bn, q, leaves, tables, n),
-        3 => element_choice(d, once, p, bs, bn, q, leaves, tables, n),
+        2 => element_sequence(d, once, dr.leaf, p, bs, bn, q, leaves, tables, n),
+        3 => element_choice(d, once, dr.leaf, p, bs, bn, q, leaves, tables, n),
         4 => Verdict::Unknown,
         5 => Verdict::Violation(Reason::WildcardElement),
         6 => verdicts::wildcard_wildcard(dr.leaf, p, br.leaf, q, leaves, tables, n),
@@ -228,11 +233,12 @@ fn same_kind(
     Verdict::Violation(Reason::SequenceRange)
 }
 
-// Element against sequence: two readings. For an element that counts once the first answers for both: they walk it in the same way,
-// and where its pair isn't within the base's both fail.
+// Element against sequence. An element that counts once has one mark: both readings walk it in the same way, and where its pair isn't
+// within the base's both fail. Any other has two, which one pass gives.
 fn element_sequence(
     d: &[u8],
     once: bool,
+    leaf: u8,
     p: Occurs,
     bs: &[u8],
     bn: usize,
@@ -242,30 +248,22 @@ fn element_sequence(
     n: u8,
 ) -> Verdict
     requires { ⌜ Run 1 (now d) ⌝ }
+    requires { ⌜ onceHead once (tree (now d) .head) ≡ element leaf p ⌝ }
     requires { ⌜ Run bn (now bs) ⌝ }
-    requires { ⌜ (once ≡ true → p ≡ exactly 1) ⌝ }
-    ensures { λ r. ⌜ markOf r ≡ combineReadings (rangeOk p q orFails 105 andThen recurseOrdered (judge (now (leaves .entry)) (now (tables .entry)) n) false (eachOnce true (row 1 (now (d .entry)))) (row bn (now (bs .entry)))) (baseOnce q 110 andThen recurseOrdered (judge (now (leaves .entry)) (now (tables .entry)) n) false (eachOnce once (row 1 (now (d .entry)))) (row bn (now (bs .entry)))) ⌝ }
+    ensures { λ r. ⌜ markOf r ≡ sequenceMark (judge (now (leaves .entry)) (now (tables .entry)) n) p q (asOnce true (tree (now (d .entry)))) (asOnce once (tree (now (d .entry)))) (row bn (now (bs .entry))) ⌝ }
 {
-    let wrapped = same_kind(d, 1, true, p, bs, bn, q, false, leaves, tables, n);
-    if once {
-        return wrapped;
+    if counts_once(p) {
+        return same_kind(d, 1, true, p, bs, bn, q, false, leaves, tables, n);
     }
-    if let Verdict::Ok = wrapped {
-        return Verdict::Ok;
-    }
-    let sequence_once = base_once(q, Reason::SequenceRequired);
-    let Verdict::Ok = sequence_once else {
-        return verdicts::combine_readings(wrapped, sequence_once);
-    };
-    let direct = recurse_ordered(d, 1, once, bs, bn, false, leaves, tables, n);
-    verdicts::combine_readings(wrapped, direct)
+    let marks = sequence_marks(d, leaf, p, bs, bn, q, leaves, tables, n);
+    marks.own
 }
 
-// Element against choice: two readings. For an element that counts once both ask the same of each alternative, so that one pass over
-// them answers for both, and where its pair isn't within the base's both fail.
+// Element against choice, in the same way: of one that counts once both readings ask the same of each alternative.
 fn element_choice(
     d: &[u8],
     once: bool,
+    leaf: u8,
     p: Occurs,
     bs: &[u8],
     bn: usize,
@@ -275,26 +273,149 @@ fn element_choice(
     n: u8,
 ) -> Verdict
     requires { ⌜ Run 1 (now d) ⌝ }
+    requires { ⌜ onceHead once (tree (now d) .head) ≡ element leaf p ⌝ }
     requires { ⌜ Run bn (now bs) ⌝ }
-    requires { ⌜ (once ≡ true → p ≡ exactly 1) ⌝ }
-    ensures { λ r. ⌜ markOf r ≡ combineReadings (rangeOk p q orFails 106 andThen recurseOrdered (judge (now (leaves .entry)) (now (tables .entry)) n) true (eachOnce true (row 1 (now (d .entry)))) (row bn (now (bs .entry)))) (baseOnce q 112 andThen alternatives (judge (now (leaves .entry)) (now (tables .entry)) n) 111 (asOnce once (tree (now (d .entry)))) (row bn (now (bs .entry)))) ⌝ }
+    ensures { λ r. ⌜ markOf r ≡ choiceMark (judge (now (leaves .entry)) (now (tables .entry)) n) p q (asOnce true (tree (now (d .entry)))) (asOnce once (tree (now (d .entry)))) (row bn (now (bs .entry))) ⌝ }
 {
-    if once {
+    if counts_once(p) {
         if !particle::range_ok(p, q) {
             return Verdict::Violation(Reason::ChoiceRange);
         }
-        return any_alternative(d, once, bs, bn, Reason::NotAllowed, leaves, tables, n);
+        return any_alternative(d, true, bs, bn, Reason::NotAllowed, leaves, tables, n);
     }
-    let wrapped = same_kind(d, 1, true, p, bs, bn, q, true, leaves, tables, n);
-    if let Verdict::Ok = wrapped {
-        return Verdict::Ok;
+    let marks = choice_marks(d, leaf, p, bs, bn, q, leaves, tables, n);
+    marks.own
+}
+
+// Both marks of the element d against the first tree of b: counting once, and with its own pair p.
+fn element_marks(
+    d: &[u8],
+    leaf: u8,
+    p: Occurs,
+    b: &[u8],
+    leaves: &[u8],
+    tables: &[u8],
+    n: u8,
+) -> Marks
+    requires { ⌜ Run 1 (now d) ⌝ }
+    requires { ⌜ tree (now d) .head ≡ element leaf p ⌝ }
+    requires { ⌜ Run 1 (now b) ⌝ }
+    ensures { λ r. ⌜ BothMarks r (judge (now (leaves .entry)) (now (tables .entry)) n (asOnce true (tree (now (d .entry)))) (tree (now (b .entry)))) (judge (now (leaves .entry)) (now (tables .entry)) n (tree (now (d .entry))) (tree (now (b .entry)))) ⌝ }
+{
+    let br = particle::record_at(b);
+    let q = base_range(br, false);
+    let bs = particle::items(b);
+    let bn = br.count as usize;
+    match kind_of(br) {
+        0 => marks::with_element(leaf, p, br.leaf, q, tables, n),
+        1 => marks::with_wildcard(leaf, p, br.leaf, q, tables, n),
+        2 => sequence_marks(d, leaf, p, bs, bn, q, leaves, tables, n),
+        3 => choice_marks(d, leaf, p, bs, bn, q, leaves, tables, n),
+        _ => Marks {
+            once: Verdict::Unknown,
+            own: Verdict::Unknown,
+        },
     }
+}
+
+// The same against a sequence: two walks over its items, of the element once and of the element with its own pair. The first of them is
+// the mark of the element that counts once, and the wrapped reading of the other.
+fn sequence_marks(
+    d: &[u8],
+    leaf: u8,
+    p: Occurs,
+    bs: &[u8],
+    bn: usize,
+    q: Occurs,
+    leaves: &[u8],
+    tables: &[u8],
+    n: u8,
+) -> Marks
+    requires { ⌜ Run 1 (now d) ⌝ }
+    requires { ⌜ tree (now d) .head ≡ element leaf p ⌝ }
+    requires { ⌜ Run bn (now bs) ⌝ }
+    ensures { λ r. ⌜ BothMarks r (sequenceOnce (judge (now (leaves .entry)) (now (tables .entry)) n) q (asOnce true (tree (now (d .entry)))) (row bn (now (bs .entry)))) (sequenceMark (judge (now (leaves .entry)) (now (tables .entry)) n) p q (asOnce true (tree (now (d .entry)))) (tree (now (d .entry))) (row bn (now (bs .entry)))) ⌝ }
+{
+    let sequence_once = base_once(q, Reason::SequenceRequired);
+    let Verdict::Ok = sequence_once else {
+        let wrapped = same_kind(d, 1, true, p, bs, bn, q, false, leaves, tables, n);
+        return marks::base_fails(Reason::SequenceRange, wrapped, sequence_once);
+    };
+    let within = particle::range_ok(p, q);
+    let mut once = Standing::On;
+    let mut own = Standing::On;
+    let mut bitems = bs;
+    let mut left = bn;
+    while 0 < left {
+        let b = bitems;
+        let next = particle::next(b);
+        bitems = next;
+        left -= 1;
+        let item = element_marks(d, leaf, p, b, leaves, tables, n);
+        let item_once = item.once;
+        let item_own = item.own;
+        once = marks::walk_on(once, item_once, false, b, bitems, left);
+        own = marks::walk_on(own, item_own, false, b, bitems, left);
+        if marks::settled(within, once, own) {
+            return marks::walked(within, once, own);
+        }
+    }
+    marks::walked(within, once, own)
+}
+
+// The same against a choice. The wrapped reading is the lax walk, which ends at the first alternative that does not fail; the other
+// reading, and the element that counts once, go on after an undecided one.
+fn choice_marks(
+    d: &[u8],
+    leaf: u8,
+    p: Occurs,
+    bs: &[u8],
+    bn: usize,
+    q: Occurs,
+    leaves: &[u8],
+    tables: &[u8],
+    n: u8,
+) -> Marks
+    requires { ⌜ Run 1 (now d) ⌝ }
+    requires { ⌜ tree (now d) .head ≡ element leaf p ⌝ }
+    requires { ⌜ Run bn (now bs) ⌝ }
+    ensures { λ r. ⌜ BothMarks r (choiceOnce (judge (now (leaves .entry)) (now (tables .entry)) n) q (asOnce true (tree (now (d .entry)))) (row bn (now (bs .entry)))) (choiceMark (judge (now (leaves .entry)) (now (tables .entry)) n) p q (asOnce true (tree (now (d .entry)))) (tree (now (d .entry))) (row bn (now (bs .entry)))) ⌝ }
+{
     let choice_once = base_once(q, Reason::ChoiceRequired);
     let Verdict::Ok = choice_once else {
-        return verdicts::combine_readings(wrapped, choice_once);
+        let wrapped = same_kind(d, 1, true, p, bs, bn, q, true, leaves, tables, n);
+        return marks::base_fails(Reason::ChoiceRange, wrapped, choice_once);
     };
-    let direct = any_alternative(d, once, bs, bn, Reason::NoAlternative, leaves, tables, n);
-    verdicts::combine_readings(wrapped, direct)
+    let within = particle::range_ok(p, q);
+    let mut first = Standing::On;
+    let mut once = Verdict::Violation(Reason::NotAllowed);
+    let mut own = Verdict::Violation(Reason::NoAlternative);
+    let mut bitems = bs;
+    let mut left = bn;
+    while 0 < left {
+        let b = bitems;
+        let next = particle::next(b);
+        bitems = next;
+        left -= 1;
+        let item = element_marks(d, leaf, p, b, leaves, tables, n);
+        let item_once = item.once;
+        let item_own = item.own;
+        first = marks::walk_on(first, item_once, true, b, bitems, left);
+        once = verdicts::combine_readings(once, item_once);
+        own = verdicts::combine_readings(own, item_own);
+        if let Verdict::Ok = once {
+            if let Verdict::Ok = marks::read(within, Reason::ChoiceRange, first, own) {
+                return Marks {
+                    once: Verdict::Ok,
+                    own: Verdict::Ok,
+                };
+            }
+        }
+    }
+    Marks {
+        once: once,
+        own: marks::read(within, Reason::ChoiceRange, first, own),
+    }
 }
 
 // Group against wildcard: total range, then each member against the wildcard with pair (0, unbounded).

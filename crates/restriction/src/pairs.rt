@@ -7,7 +7,7 @@ ghost use Rattle.particle.specs.Encode.{kindNumber};
 ghost use Rattle.totals.specs.Total.{cutMax};
 ghost use Rattle.rules.specs.Rule.{timesCountMax, timesCount, baseOnce};
 ghost use Rattle.verdicts.specs.Reasons.{reasonNumber, markOf};
-ghost use Rattle.restriction.specs.Views.{onceHead, anyHead};
+ghost use Rattle.restriction.specs.Views.{isOnce, onceHead, anyHead};
 use particle::MaxOccurs;
 use particle::Occurs;
 use particle::Record;
@@ -32,6 +32,20 @@ pub fn exactly_one() -> Occurs
     Occurs {
         min: 1,
         max: MaxOccurs::Bounded(1),
+    }
+}
+
+// Whether an element of pair p counts once.
+pub fn counts_once(p: Occurs) -> bool
+    ensures { λ r. ⌜ r ≡ isOnce p ⌝ }
+{
+    if p.min != 1 {
+        return false;
+    }
+    let pmax = p.max;
+    match pmax {
+        MaxOccurs::Unbounded => false,
+        MaxOccurs::Bounded(m) => m == 1,
     }
 }
 

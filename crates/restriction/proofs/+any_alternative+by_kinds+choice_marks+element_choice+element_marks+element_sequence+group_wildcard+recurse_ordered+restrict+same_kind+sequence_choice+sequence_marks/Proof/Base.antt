@@ -6,8 +6,16 @@ use Rattle.particle.proofs.items.Reads as items-reads
 use Rattle.particle.proofs.next.Reads as next-reads
 use Rattle.particle.proofs.range_ok.Reads as range-ok-reads
 use Rattle.particle.proofs.record_at.Reads as record-at-reads
+use Rattle.restriction.proofs.marks.base_fails.Reads as base-fails-reads
+use Rattle.restriction.proofs.marks.read.Reads as read-reads
+use Rattle.restriction.proofs.marks.settled.Reads as settled-reads
+use Rattle.restriction.proofs.marks.walk_on.Reads as walk-on-reads
+use Rattle.restriction.proofs.marks.walked.Reads as walked-reads
+use Rattle.restriction.proofs.marks.with_element.Reads as with-element-reads
+use Rattle.restriction.proofs.marks.with_wildcard.Reads as with-wildcard-reads
 use Rattle.restriction.proofs.pairs.base_once.Reads as base-once-reads
 use Rattle.restriction.proofs.pairs.base_range.Reads as base-range-reads
+use Rattle.restriction.proofs.pairs.counts_once.Reads as counts-once-reads
 use Rattle.restriction.proofs.pairs.derived_range.Reads as derived-range-reads
 use Rattle.restriction.proofs.pairs.exactly_one.Reads as exactly-one-reads
 use Rattle.restriction.proofs.pairs.kind_of.Reads as kind-of-reads
@@ -25,31 +33,40 @@ use Rattle.verdicts.proofs.first.Reads as first-reads
 use Rattle.verdicts.proofs.wildcard_wildcard.Reads as wildcard-wildcard-reads
 use Rattle.restriction.proofs.any_alternative.Reads as any-alternative
 use Rattle.restriction.proofs.any_alternative.Kinds as any-alternative-kinds
-use Rattle.restriction.proofs.+any_alternative+by_kinds+element_choice+element_sequence+group_wildcard+recurse_ordered+restrict+same_kind+sequence_choice.Lts-any_alternative as any-alternative-lts
+use Rattle.restriction.proofs.+any_alternative+by_kinds+choice_marks+element_choice+element_marks+element_sequence+group_wildcard+recurse_ordered+restrict+same_kind+sequence_choice+sequence_marks.Lts-any_alternative as any-alternative-lts
 use Rattle.restriction.proofs.by_kinds.Reads as by-kinds
 use Rattle.restriction.proofs.by_kinds.Kinds as by-kinds-kinds
-use Rattle.restriction.proofs.+any_alternative+by_kinds+element_choice+element_sequence+group_wildcard+recurse_ordered+restrict+same_kind+sequence_choice.Lts-by_kinds as by-kinds-lts
+use Rattle.restriction.proofs.+any_alternative+by_kinds+choice_marks+element_choice+element_marks+element_sequence+group_wildcard+recurse_ordered+restrict+same_kind+sequence_choice+sequence_marks.Lts-by_kinds as by-kinds-lts
 use Rattle.restriction.proofs.element_choice.Reads as element-choice
 use Rattle.restriction.proofs.element_choice.Kinds as element-choice-kinds
-use Rattle.restriction.proofs.+any_alternative+by_kinds+element_choice+element_sequence+group_wildcard+recurse_ordered+restrict+same_kind+sequence_choice.Lts-element_choice as element-choice-lts
+use Rattle.restriction.proofs.+any_alternative+by_kinds+choice_marks+element_choice+element_marks+element_sequence+group_wildcard+recurse_ordered+restrict+same_kind+sequence_choice+sequence_marks.Lts-element_choice as element-choice-lts
 use Rattle.restriction.proofs.element_sequence.Reads as element-sequence
 use Rattle.restriction.proofs.element_sequence.Kinds as element-sequence-kinds
-use Rattle.restriction.proofs.+any_alternative+by_kinds+element_choice+element_sequence+group_wildcard+recurse_ordered+restrict+same_kind+sequence_choice.Lts-element_sequence as element-sequence-lts
+use Rattle.restriction.proofs.+any_alternative+by_kinds+choice_marks+element_choice+element_marks+element_sequence+group_wildcard+recurse_ordered+restrict+same_kind+sequence_choice+sequence_marks.Lts-element_sequence as element-sequence-lts
 use Rattle.restriction.proofs.group_wildcard.Reads as group-wildcard
 use Rattle.restriction.proofs.group_wildcard.Kinds as group-wildcard-kinds
-use Rattle.restriction.proofs.+any_alternative+by_kinds+element_choice+element_sequence+group_wildcard+recurse_ordered+restrict+same_kind+sequence_choice.Lts-group_wildcard as group-wildcard-lts
+use Rattle.restriction.proofs.+any_alternative+by_kinds+choice_marks+element_choice+element_marks+element_sequence+group_wildcard+recurse_ordered+restrict+same_kind+sequence_choice+sequence_marks.Lts-group_wildcard as group-wildcard-lts
 use Rattle.restriction.proofs.recurse_ordered.Reads as recurse-ordered
 use Rattle.restriction.proofs.recurse_ordered.Kinds as recurse-ordered-kinds
-use Rattle.restriction.proofs.+any_alternative+by_kinds+element_choice+element_sequence+group_wildcard+recurse_ordered+restrict+same_kind+sequence_choice.Lts-recurse_ordered as recurse-ordered-lts
+use Rattle.restriction.proofs.+any_alternative+by_kinds+choice_marks+element_choice+element_marks+element_sequence+group_wildcard+recurse_ordered+restrict+same_kind+sequence_choice+sequence_marks.Lts-recurse_ordered as recurse-ordered-lts
 use Rattle.restriction.proofs.restrict.Reads as restrict
 use Rattle.restriction.proofs.restrict.Kinds as restrict-kinds
-use Rattle.restriction.proofs.+any_alternative+by_kinds+element_choice+element_sequence+group_wildcard+recurse_ordered+restrict+same_kind+sequence_choice.Lts-restrict as restrict-lts
+use Rattle.restriction.proofs.+any_alternative+by_kinds+choice_marks+element_choice+element_marks+element_sequence+group_wildcard+recurse_ordered+restrict+same_kind+sequence_choice+sequence_marks.Lts-restrict as restrict-lts
 use Rattle.restriction.proofs.same_kind.Reads as same-kind
 use Rattle.restriction.proofs.same_kind.Kinds as same-kind-kinds
-use Rattle.restriction.proofs.+any_alternative+by_kinds+element_choice+element_sequence+group_wildcard+recurse_ordered+restrict+same_kind+sequence_choice.Lts-same_kind as same-kind-lts
+use Rattle.restriction.proofs.+any_alternative+by_kinds+choice_marks+element_choice+element_marks+element_sequence+group_wildcard+recurse_ordered+restrict+same_kind+sequence_choice+sequence_marks.Lts-same_kind as same-kind-lts
 use Rattle.restriction.proofs.sequence_choice.Reads as sequence-choice
 use Rattle.restriction.proofs.sequence_choice.Kinds as sequence-choice-kinds
-use Rattle.restriction.proofs.+any_alternative+by_kinds+element_choice+element_sequence+group_wildcard+recurse_ordered+restrict+same_kind+sequence_choice.Lts-sequence_choice as sequence-choice-lts
+use Rattle.restriction.proofs.+any_alternative+by_kinds+choice_marks+element_choice+element_marks+element_sequence+group_wildcard+recurse_ordered+restrict+same_kind+sequence_choice+sequence_marks.Lts-sequence_choice as sequence-choice-lts
+use Rattle.restriction.proofs.choice_marks.Reads as choice-marks
+use Rattle.restriction.proofs.choice_marks.Kinds as choice-marks-kinds
+use Rattle.restriction.proofs.+any_alternative+by_kinds+choice_marks+element_choice+element_marks+element_sequence+group_wildcard+recurse_ordered+restrict+same_kind+sequence_choice+sequence_marks.Lts-choice_marks as choice-marks-lts
+use Rattle.restriction.proofs.element_marks.Reads as element-marks
+use Rattle.restriction.proofs.element_marks.Kinds as element-marks-kinds
+use Rattle.restriction.proofs.+any_alternative+by_kinds+choice_marks+element_choice+element_marks+element_sequence+group_wildcard+recurse_ordered+restrict+same_kind+sequence_choice+sequence_marks.Lts-element_marks as element-marks-lts
+use Rattle.restriction.proofs.sequence_marks.Reads as sequence-marks
+use Rattle.restriction.proofs.sequence_marks.Kinds as sequence-marks-kinds
+use Rattle.restriction.proofs.+any_alternative+by_kinds+choice_marks+element_choice+element_marks+element_sequence+group_wildcard+recurse_ordered+restrict+same_kind+sequence_choice+sequence_marks.Lts-sequence_marks as sequence-marks-lts
 use Rattle.restriction.proofs.Parts.{weight}
 
 abbrev pub μ-any-alternative : Measures 4 any-alternative-kinds.ps ℕ
@@ -59,10 +76,10 @@ abbrev pub μ-by-kinds : Measures 4 by-kinds-kinds.ps ℕ
 μ-by-kinds κs a = weight 0 (a .0 .now) (a .1 .1 .0 .now)
 
 abbrev pub μ-element-choice : Measures 4 element-choice-kinds.ps ℕ
-μ-element-choice κs a = weight 4 (a .0 .now) (a .1 .1 .1 .0 .now)
+μ-element-choice κs a = weight 5 (a .0 .now) (a .1 .1 .1 .1 .0 .now)
 
 abbrev pub μ-element-sequence : Measures 4 element-sequence-kinds.ps ℕ
-μ-element-sequence κs a = weight 4 (a .0 .now) (a .1 .1 .1 .0 .now)
+μ-element-sequence κs a = weight 5 (a .0 .now) (a .1 .1 .1 .1 .0 .now)
 
 abbrev pub μ-group-wildcard : Measures 5 group-wildcard-kinds.ps ℕ
 μ-group-wildcard κs a = weight 2 (a .1 .0 .now) (a .1 .1 .1 .0 .now)
@@ -78,6 +95,15 @@ abbrev pub μ-same-kind : Measures 4 same-kind-kinds.ps ℕ
 
 abbrev pub μ-sequence-choice : Measures 4 sequence-choice-kinds.ps ℕ
 μ-sequence-choice κs a = weight 3 (a .0 .now) (a .1 .1 .1 .0 .now)
+
+abbrev pub μ-choice-marks : Measures 4 choice-marks-kinds.ps ℕ
+μ-choice-marks κs a = weight 4 (a .0 .now) (a .1 .1 .1 .0 .now)
+
+abbrev pub μ-element-marks : Measures 4 element-marks-kinds.ps ℕ
+μ-element-marks κs a = weight 1 (a .0 .now) (a .1 .1 .1 .0 .now)
+
+abbrev pub μ-sequence-marks : Measures 4 sequence-marks-kinds.ps ℕ
+μ-sequence-marks κs a = weight 4 (a .0 .now) (a .1 .1 .1 .0 .now)
 
 module _ (t : ℕ) where
   abbrev pub any-alternative-at : In 4 any-alternative-kinds.ps
@@ -134,6 +160,24 @@ module _ (t : ℕ) where
   abbrev pub sequence-choice-below : In 4 sequence-choice-kinds.ps
   sequence-choice-below = and 4 sequence-choice-kinds.ps (falls 4 sequence-choice-kinds.ps _<_ μ-sequence-choice t) sequence-choice.Pre
 
+  abbrev pub choice-marks-at : In 4 choice-marks-kinds.ps
+  choice-marks-at = and 4 choice-marks-kinds.ps (is 4 choice-marks-kinds.ps μ-choice-marks t) choice-marks.Pre
+
+  abbrev pub choice-marks-below : In 4 choice-marks-kinds.ps
+  choice-marks-below = and 4 choice-marks-kinds.ps (falls 4 choice-marks-kinds.ps _<_ μ-choice-marks t) choice-marks.Pre
+
+  abbrev pub element-marks-at : In 4 element-marks-kinds.ps
+  element-marks-at = and 4 element-marks-kinds.ps (is 4 element-marks-kinds.ps μ-element-marks t) element-marks.Pre
+
+  abbrev pub element-marks-below : In 4 element-marks-kinds.ps
+  element-marks-below = and 4 element-marks-kinds.ps (falls 4 element-marks-kinds.ps _<_ μ-element-marks t) element-marks.Pre
+
+  abbrev pub sequence-marks-at : In 4 sequence-marks-kinds.ps
+  sequence-marks-at = and 4 sequence-marks-kinds.ps (is 4 sequence-marks-kinds.ps μ-sequence-marks t) sequence-marks.Pre
+
+  abbrev pub sequence-marks-below : In 4 sequence-marks-kinds.ps
+  sequence-marks-below = and 4 sequence-marks-kinds.ps (falls 4 sequence-marks-kinds.ps _<_ μ-sequence-marks t) sequence-marks.Pre
+
   abbrev pub any-alternative-calls : any-alternative-lts.Claims
   any-alternative-calls = (next-reads.Asked, next-reads.Learnt, restrict-below, restrict.Post, definite-reads.Asked, definite-reads.Learnt)
 
@@ -141,10 +185,19 @@ module _ (t : ℕ) where
   by-kinds-calls = (record-at-reads.Asked, record-at-reads.Learnt, derived-range-reads.Asked, derived-range-reads.Learnt, base-range-reads.Asked, base-range-reads.Learnt, items-reads.Asked, items-reads.Learnt, exactly-one-reads.Asked, exactly-one-reads.Learnt, kind-of-reads.Asked, kind-of-reads.Learnt, element-restrict-reads.Asked, element-restrict-reads.Learnt, element-wildcard-reads.Asked, element-wildcard-reads.Learnt, element-sequence-below, element-sequence.Post, element-choice-below, element-choice.Post, wildcard-wildcard-reads.Asked, wildcard-wildcard-reads.Learnt, same-kind-below, same-kind.Post, group-wildcard-below, group-wildcard.Post, sequence-choice-below, sequence-choice.Post, group-all-reads.Asked, group-all-reads.Learnt)
 
   abbrev pub element-choice-calls : element-choice-lts.Claims
-  element-choice-calls = (range-ok-reads.Asked, range-ok-reads.Learnt, any-alternative-below, any-alternative.Post, same-kind-below, same-kind.Post, base-once-reads.Asked, base-once-reads.Learnt, combine-readings-reads.Asked, combine-readings-reads.Learnt)
+  element-choice-calls = (counts-once-reads.Asked, counts-once-reads.Learnt, range-ok-reads.Asked, range-ok-reads.Learnt, any-alternative-below, any-alternative.Post, choice-marks-below, choice-marks.Post)
 
   abbrev pub element-sequence-calls : element-sequence-lts.Claims
-  element-sequence-calls = (same-kind-below, same-kind.Post, base-once-reads.Asked, base-once-reads.Learnt, combine-readings-reads.Asked, combine-readings-reads.Learnt, recurse-ordered-below, recurse-ordered.Post)
+  element-sequence-calls = (counts-once-reads.Asked, counts-once-reads.Learnt, same-kind-below, same-kind.Post, sequence-marks-below, sequence-marks.Post)
+
+  abbrev pub element-marks-calls : element-marks-lts.Claims
+  element-marks-calls = (record-at-reads.Asked, record-at-reads.Learnt, base-range-reads.Asked, base-range-reads.Learnt, items-reads.Asked, items-reads.Learnt, kind-of-reads.Asked, kind-of-reads.Learnt, with-element-reads.Asked, with-element-reads.Learnt, with-wildcard-reads.Asked, with-wildcard-reads.Learnt, sequence-marks-below, sequence-marks.Post, choice-marks-below, choice-marks.Post)
+
+  abbrev pub sequence-marks-calls : sequence-marks-lts.Claims
+  sequence-marks-calls = (base-once-reads.Asked, base-once-reads.Learnt, same-kind-below, same-kind.Post, base-fails-reads.Asked, base-fails-reads.Learnt, range-ok-reads.Asked, range-ok-reads.Learnt, next-reads.Asked, next-reads.Learnt, element-marks-below, element-marks.Post, walk-on-reads.Asked, walk-on-reads.Learnt, settled-reads.Asked, settled-reads.Learnt, walked-reads.Asked, walked-reads.Learnt)
+
+  abbrev pub choice-marks-calls : choice-marks-lts.Claims
+  choice-marks-calls = (base-once-reads.Asked, base-once-reads.Learnt, same-kind-below, same-kind.Post, base-fails-reads.Asked, base-fails-reads.Learnt, range-ok-reads.Asked, range-ok-reads.Learnt, next-reads.Asked, next-reads.Learnt, element-marks-below, element-marks.Post, walk-on-reads.Asked, walk-on-reads.Learnt, combine-readings-reads.Asked, combine-readings-reads.Learnt, read-reads.Asked, read-reads.Learnt)
 
   abbrev pub group-wildcard-calls : group-wildcard-lts.Claims
   group-wildcard-calls = (effective-total-range-reads.Asked, effective-total-range-reads.Learnt, total-ok-reads.Asked, total-ok-reads.Learnt, next-reads.Asked, next-reads.Learnt, by-kinds-below, by-kinds.Post, definite-reads.Asked, definite-reads.Learnt)
