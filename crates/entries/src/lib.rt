@@ -3,7 +3,7 @@
 ghost use mathlib.Core.Path.{_≡_};
 ghost use Rattle.particle.specs.Tree.{tree};
 ghost use Rattle.particle.specs.Rows.{PartOf};
-ghost use Rattle.totals.specs.Empty.{emptiable};
+ghost use Rattle.particle.specs.Empty.{emptiable};
 ghost use Rattle.totals.specs.Total.{total};
 ghost use Rattle.entries.specs.Answer.{answer, totalMeaning, emptiableMeaning, refusalAlone};
 ghost use Rattle.entries.specs.TidyAnswer.{tidyMeaning, tidyAnswer, tidyBuffer};

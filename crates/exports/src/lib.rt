@@ -2,7 +2,7 @@
 ghost use mathlib.Core.Path.{_≡_};
 ghost use lib.ListN.{length};
 ghost use Rattle.particle.specs.Tree.{tree};
-ghost use Rattle.totals.specs.Empty.{emptiable};
+ghost use Rattle.particle.specs.Empty.{emptiable};
 ghost use Rattle.totals.specs.Total.{total};
 ghost use Rattle.entries.specs.Answer.{answer, refusalAlone};
 ghost use Rattle.entries.specs.ItemAnswer.{itemBytes};

@@ -9,9 +9,9 @@ use borrow.Author.Tests.{eqb-true, eq-eqb}
 use Rattle.particle.specs.declared.MaxOccurs.the-variants.{Bounded}
 use Rattle.particle.specs.declared.Occurs.{Occurs}
 use Rattle.particle.specs.Tree.{Head, element, wildcard, sequence, choice, all, Items, none, item, Particle, pairOf, fold}
+use Rattle.particle.specs.Empty.{every, some, isEmpty, optional, emptiableFrom, emptiable}
 use Rattle.particle.proofs.Folds.{Matches, ended, next, fold-matches}
 use Rattle.particle.proofs.Tests.{and-true, or-true, both-true, left-true, right-true}
-use Rattle.totals.specs.Empty.{every, some, isEmpty, optional, emptiableFrom, emptiable}
 use Rattle.language.specs.Language.{Words, InOrder, OneOf, Inserted, here, later, Blocks, joined, AnyOrder, AtMost, Rounds, Name, Names, wordsFrom, Allows}
 use Rattle.language.specs.Premises.{Every, Throughout, Ordered, NoEmptyChoice}
 use Rattle.language.proofs.Rounds.{Many, no-round, empty-rounds, names-length}

@@ -9,7 +9,7 @@ use lib.ListN.{replicate}
 use Rattle.particle.specs.declared.MaxOccurs.the-variants.{Bounded, Unbounded}
 use Rattle.particle.specs.Occurs.{exactly}
 use Rattle.particle.specs.Tree.{element, sequence, choice, all, none, item, Particle, fold}
-use Rattle.totals.specs.Empty.{emptiable}
+use Rattle.particle.specs.Empty.{emptiable}
 use Rattle.language.specs.Language.{InOrder, Inserted, here, later, AnyOrder, Rounds, Name, Names, Allows}
 use Rattle.language.proofs.Words.{in-order-one}
 use Rattle.language.proofs.Rounds.{Many, one-round, only-round}

@@ -1,8 +1,8 @@
 -- Document 01's printed sheet passes, and the entries answer its P examples as it says, by computation. Assumes nothing.
 use mathlib.Core.Path.{_≡_, refl}
 use Rattle.particle.specs.Tree.{_then_, takeI, dropI, countI, sizeI, fold, build, recordsN, records, decode, tree}
+use Rattle.particle.specs.Empty.{emptiable}
 use Rattle.particle.specs.Encode.{flat, joined, encode}
-use Rattle.totals.specs.Empty.{emptiable}
 use Rattle.totals.specs.Exact.{sum, span, exactTotal}
 use Rattle.totals.specs.Total.{total}
 use Rattle.tidying.specs.Tidy.{tidyItems, tidy}

@@ -11,9 +11,9 @@ use Rattle.particle.specs.Record.{recordAt, rangeOf}
 use Rattle.particle.specs.Tree.{Particle, pairOf, records, tree}
 use Rattle.particle.specs.Encode.{Faithful}
 use Rattle.particle.specs.Rows.{Row}
+use Rattle.particle.specs.Empty.{emptiable}
 use Rattle.particle.proofs.Laws.{tree-is}
 use Rattle.particle.proofs.Heads.{pair-record}
-use Rattle.totals.specs.Empty.{emptiable}
 use Rattle.tidying.specs.Tidy.{tidy}
 use Rattle.rules.specs.Verdicts.{Mark, passes, Leaves, Tables}
 use Rattle.rules.specs.Mark.{earlyPass, restrict, markTidied, mark}

@@ -5,7 +5,7 @@ use mathlib.Core.List.{List}
 use Prim.Native.Nat.{ℕ}
 use lib.ListN.{length}
 use Rattle.particle.specs.Tree.{tree}
-use Rattle.totals.specs.Empty.{emptiable}
+use Rattle.particle.specs.Empty.{emptiable}
 use Rattle.totals.specs.Total.{total}
 use Rattle.entries.specs.Answer.{answer, refusalAlone}
 use Rattle.entries.specs.ItemAnswer.{itemBytes}

@@ -6,8 +6,8 @@ use Prim.Native.Nat.{ℕ, _-_, _≤_, _<_}
 use borrow.Author.Tests.{not-true, not-false}
 use Rattle.particle.specs.Tree.{tree}
 use Rattle.particle.specs.Rows.{row, laterPart}
+use Rattle.particle.specs.Empty.{emptiable}
 use Rattle.particle.specs.Runs.{Run}
-use Rattle.totals.specs.Empty.{emptiable}
 use Rattle.rules.specs.Verdicts.{passes, fails}
 use Rattle.rules.specs.Walk.{leftOver}
 use Rattle.restriction.proofs.Parts.{Part, part-start, part-next, row-none, row-cons}

@@ -5,8 +5,8 @@ use mathlib.Core.Path.{_≡_, refl, sym, ap, _∙_}
 use Prim.Native.Nat.{ℕ, _-_, _≤_, _<_}
 use Rattle.particle.specs.Tree.{Items, none, item, Particle, tree}
 use Rattle.particle.specs.Rows.{row, laterPart}
+use Rattle.particle.specs.Empty.{emptiable}
 use Rattle.particle.specs.Runs.{Run}
-use Rattle.totals.specs.Empty.{emptiable}
 use Rattle.rules.specs.Verdicts.{Mark, passes, undecided, fails}
 use Rattle.rules.specs.Walk.{Judge, leftOver, recurseOrdered}
 use Rattle.verdicts.specs.declared.Reason.{Reason}

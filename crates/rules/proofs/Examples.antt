@@ -1,7 +1,7 @@
 -- `examples-hold`: every P example of document 01, by computation. Assumes nothing.
 use mathlib.Core.Path.{refl}
 use Rattle.particle.specs.Tree.{_then_, countI, sizeI, fold}
-use Rattle.totals.specs.Empty.{emptiable}
+use Rattle.particle.specs.Empty.{emptiable}
 use Rattle.totals.specs.Exact.{sum, span, exactTotal}
 use Rattle.totals.specs.Total.{total}
 use Rattle.tidying.specs.Tidy.{tidyItems, tidy}

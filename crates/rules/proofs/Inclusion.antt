@@ -9,8 +9,8 @@ use Rattle.particle.specs.declared.MaxOccurs.the-variants.{Bounded}
 use Rattle.particle.specs.declared.Occurs.{Occurs}
 use Rattle.particle.specs.Occurs.{isZero}
 use Rattle.particle.specs.Tree.{Head, element, wildcard, sequence, choice, all, Particle, pairOf, fold}
+use Rattle.particle.specs.Empty.{emptiable}
 use Rattle.particle.proofs.Tests.{and-true, or-true}
-use Rattle.totals.specs.Empty.{emptiable}
 use Rattle.language.specs.Language.{Words, AtMost, Rounds, Names, wordsFrom, Allows}
 use Rattle.language.specs.Premises.{Throughout, Ordered}
 use Rattle.language.proofs.Words.{_⊆_}

@@ -10,7 +10,7 @@ use borrow.Author.Tests.{eqb-true}
 use Rattle.particle.specs.declared.MaxOccurs.the-variants.{Bounded}
 use Rattle.particle.specs.declared.Occurs.{Occurs}
 use Rattle.particle.specs.Tree.{Particle, _then_, countI, sizeI, fold}
-use Rattle.totals.specs.Empty.{emptiable}
+use Rattle.particle.specs.Empty.{emptiable}
 use Rattle.totals.specs.Exact.{sum, span, exactTotal}
 use Rattle.totals.specs.Total.{total}
 use Rattle.language.specs.Language.{AtMost, Names, Allows}

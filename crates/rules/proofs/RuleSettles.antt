@@ -6,7 +6,7 @@ use lib.Dec.{leb}
 use Rattle.particle.specs.declared.Occurs.{Occurs}
 use Rattle.particle.specs.Occurs.{rangeOk, exactly}
 use Rattle.particle.specs.Tree.{Head, element, wildcard, sequence, choice, all, Items, none, item, Particle, sizeI, countI}
-use Rattle.totals.specs.Empty.{emptiable}
+use Rattle.particle.specs.Empty.{emptiable}
 use Rattle.totals.specs.Total.{total, totalOk}
 use Rattle.language.specs.Premises.{Every, Throughout}
 use Rattle.rules.specs.Verdicts.{Mark, fails, Leaves, Tables}

@@ -9,8 +9,8 @@ use Rattle.particle.specs.declared.MaxOccurs.the-variants.{Bounded, Unbounded}
 use Rattle.particle.specs.declared.Occurs.{Occurs}
 use Rattle.particle.specs.Occurs.{rangeOk, exactly}
 use Rattle.particle.specs.Tree.{Head, element, wildcard, sequence, choice, all, Items, none, item, Particle, pairOf, countI}
+use Rattle.particle.specs.Empty.{optional, emptiable}
 use Rattle.particle.proofs.Tests.{both-true, right-true}
-use Rattle.totals.specs.Empty.{optional, emptiable}
 use Rattle.totals.specs.Total.{total, totalOk}
 use Rattle.tidying.specs.Tidy.{tidy}
 use Rattle.rules.specs.Verdicts.{Mark, passes, undecided, fails, Leaves, Tables}

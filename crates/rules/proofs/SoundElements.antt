@@ -7,8 +7,8 @@ use lib.Dec.{leb, eqb}
 use lib.ListN.{replicate}
 use Rattle.particle.specs.declared.Occurs.{Occurs}
 use Rattle.particle.specs.Tree.{Head, element, wildcard, sequence, choice, all, Items, none, item, pairOf, fold}
+use Rattle.particle.specs.Empty.{optional}
 use Rattle.particle.proofs.Tests.{both-true}
-use Rattle.totals.specs.Empty.{optional}
 use Rattle.language.specs.Language.{Words, InOrder, Inserted, here, later, Blocks, joined, AnyOrder, Rounds, Name, Names, wordsFrom}
 use Rattle.language.specs.Premises.{Every}
 use Rattle.language.proofs.Words.{_⊆_, swap-inserted}

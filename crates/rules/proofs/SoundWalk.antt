@@ -5,7 +5,7 @@ use mathlib.Core.Logic.{inl, inr, ⊎-elim}
 use mathlib.Core.Path.{_≡_, refl}
 use Prim.Native.Nat.{ℕ}
 use Rattle.particle.specs.Tree.{Head, Items, none, item, Particle, fold}
-use Rattle.totals.specs.Empty.{emptiable}
+use Rattle.particle.specs.Empty.{emptiable}
 use Rattle.language.specs.Language.{Words, InOrder, OneOf, Names, Allows}
 use Rattle.language.specs.Premises.{Every, Throughout, Ordered}
 use Rattle.language.proofs.Words.{_⊆_, followed-mono}

@@ -3,7 +3,7 @@ use mathlib.Core.Bool.{Bool, true, false, _&&_, _||_}
 use Prim.Native.Nat.{ℕ, zero, suc, _+_, _*_}
 use Rattle.particle.specs.Occurs.{isZero}
 use Rattle.particle.specs.Tree.{Particle, pairOf, single, sizeI}
-use Rattle.totals.specs.Empty.{emptiable}
+use Rattle.particle.specs.Empty.{emptiable}
 use Rattle.tidying.specs.Tidy.{tidy}
 use Rattle.rules.specs.Verdicts.{Mark, passes, undecided, Leaves, Tables}
 use Rattle.rules.specs.Walk.{Judge}

@@ -4,7 +4,7 @@ use Prim.Native.Nat.{ℕ}
 use lib.Dec.{eqb}
 use Rattle.particle.specs.declared.Occurs.{Occurs}
 use Rattle.particle.specs.Tree.{Head, element, wildcard, sequence, choice, all, Items, none, item, Particle, pairOf}
-use Rattle.totals.specs.Empty.{optional, emptiable}
+use Rattle.particle.specs.Empty.{optional, emptiable}
 use Rattle.rules.specs.Verdicts.{Mark, passes, undecided, fails, Leaves, Tables}
 use Rattle.rules.specs.Combine.{_andThen_, _orElse_}
 use Rattle.rules.specs.Element.{elementRestrict}

@@ -5,7 +5,7 @@ use mathlib.Core.Path.{_≡_, refl, ap, sym, _∙_}
 use Rattle.particle.specs.declared.Occurs.{Occurs}
 use Rattle.particle.specs.Occurs.{isOnce}
 use Rattle.particle.specs.Tree.{Head, choice, Items, none, item, Particle, pairOf, fold}
-use Rattle.totals.specs.Empty.{every, some, isEmpty, optional, emptiableFrom, emptiable}
+use Rattle.particle.specs.Empty.{every, some, isEmpty, optional, emptiableFrom, emptiable}
 use Rattle.language.specs.Premises.{BelowRoot, NoZeroMaximum, NoEmptyChoice}
 use Rattle.language.proofs.Premises.{every-both}
 use Rattle.language.proofs.Rounds.{once-is}

@@ -8,7 +8,7 @@ use Rattle.particle.specs.declared.MaxOccurs.the-variants.{Bounded}
 use Rattle.particle.specs.declared.Occurs.{Occurs}
 use Rattle.particle.specs.Occurs.{exactly}
 use Rattle.particle.specs.Tree.{element, sequence, choice, all, Items, none, item, Particle, single, fold, _then_}
-use Rattle.totals.specs.Empty.{emptiable}
+use Rattle.particle.specs.Empty.{emptiable}
 use Rattle.language.specs.Language.{Names, Allows}
 use Rattle.language.proofs.Emptiness.{emptiable-allows, allows-emptiable}
 use Rattle.tidying.specs.Tidy.{tidyItems, tidy}

@@ -10,9 +10,9 @@ use Rattle.particle.specs.declared.Record.{Record}
 use Rattle.particle.specs.Record.{recordAt, rangeOf}
 use Rattle.particle.specs.Tree.{headFrom, fold, tree}
 use Rattle.particle.specs.Rows.{Row, row, itemsPart, laterPart}
+use Rattle.particle.specs.Empty.{every, some, everyOrSome, isEmpty, optional, emptiableFrom, emptiable}
 use Rattle.particle.proofs.ByKind.{any-kind}
 use Rattle.particle.proofs.Folds.{first-is, items-are, first-leaf, first-choice, first-ordered, fold-none, fold-some}
-use Rattle.totals.specs.Empty.{every, some, everyOrSome, isEmpty, optional, emptiableFrom, emptiable}
 use Rattle.totals.proofs.Falls.{Part, part-start, part-next}
 
 optional-from : (k l : ℕ) (p : Occurs) (es : List Bool) → p .min ≡ 0 → emptiableFrom (headFrom k l p) es ≡ true

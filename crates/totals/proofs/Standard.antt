@@ -10,9 +10,9 @@ use lib.Dec.{eqb, eqb·suc-zero}
 use borrow.Author.Tests.{eqb-true, ne-eqb}
 use Rattle.particle.specs.declared.Occurs.{Occurs}
 use Rattle.particle.specs.Tree.{Head, element, wildcard, sequence, choice, all, Particle, fold}
+use Rattle.particle.specs.Empty.{every, some, isEmpty, optional, emptiableFrom, emptiable}
 use Rattle.particle.proofs.Folds.{Matches, ended, next, fold-matches}
 use Rattle.totals.specs.declared.ranges.TotalMin.the-variants.{Exact}
-use Rattle.totals.specs.Empty.{every, some, isEmpty, optional, emptiableFrom, emptiable}
 use Rattle.totals.specs.Exact.{sum, span, exactFrom, exactTotal}
 use Rattle.totals.specs.Total.{cutMin, total}
 use Rattle.totals.proofs.Cuts.{min-cases}

@@ -1,4 +1,3 @@
-pub mod Empty
 pub mod Exact
 pub mod Total
 pub mod Cut

@@ -4,7 +4,7 @@ mod ranges;
 ghost use mathlib.Core.Path.{_≡_};
 ghost use Rattle.particle.specs.Tree.{tree, fold};
 ghost use Rattle.particle.specs.Rows.{Row, row};
-ghost use Rattle.totals.specs.Empty.{everyOrSome, emptiableFrom, emptiable};
+ghost use Rattle.particle.specs.Empty.{everyOrSome, emptiableFrom, emptiable};
 ghost use Rattle.totals.specs.Exact.{sum, span, exactFrom};
 ghost use Rattle.totals.specs.Total.{cut, total};
 pub use ranges::TotalMax;
