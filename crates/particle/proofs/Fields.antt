@@ -6,9 +6,9 @@ use Rattle.particle.specs.declared.Record.{Record}
 abbrev pub withCount : Record → ℕ → Record
 withCount r n = record { kind = r .kind; leaf = r .leaf; count = n; unbounded = r .unbounded; zero = r .zero; size = r .size; min = r .min; max = r .max }
 
--- r with a number in its last two zero bytes
-abbrev pub withSize : Record → ℕ → Record
-withSize r n = record { kind = r .kind; leaf = r .leaf; count = r .count; unbounded = r .unbounded; zero = r .zero; size = n; min = r .min; max = r .max }
+-- r with these numbers in its first zero byte, and in its last two
+abbrev pub withNotes : Record → ℕ → ℕ → Record
+withNotes r e n = record { kind = r .kind; leaf = r .leaf; count = r .count; unbounded = r .unbounded; zero = e; size = n; min = r .min; max = r .max }
 
 -- r with the pair of g
 abbrev pub withPair : Record → Record → Record

@@ -1,4 +1,5 @@
 -- The loop of `measure`: from a byte on, each group is measured, and the trees are those that they were. Assumes nothing.
+use mathlib.Core.Bool.{Bool}
 use mathlib.Core.Path.{_≡_, refl, ap, sym, _∙_}
 use mathlib.Core.List.{List, [], _∷_}
 use Prim.Native.Nat.{ℕ, zero, suc, _+_, _*_, _-_, _/_, _%_, _≤_, _<_}
@@ -9,36 +10,40 @@ use Rattle.particle.specs.declared.Record.{Record}
 use Rattle.particle.specs.Record.{recordSize, maxRecords, atKind, atLeaf, atCount, atUnbounded, atZero, atSize, atMin, atMax, half, halfBytes, word, recordAt}
 use Rattle.particle.specs.Tree.{takeI, countI, sizeI, headOf, build, records, decode, firstOf, tree}
 use Rattle.particle.specs.Rows.{Complete, Row, row}
-use Rattle.particle.specs.Runs.{Measured, Run}
-use Rattle.particle.proofs.Fields.{withSize}
+use Rattle.particle.specs.Empty.{emptiable}
+use Rattle.particle.specs.Runs.{flag, Noted, Measured, Run, ItemsMeasured}
+use Rattle.particle.proofs.Fields.{withNotes}
 use Rattle.particle.proofs.Records.{records-cons, records-short, records-drop, length-records}
 use Rattle.particle.proofs.Trees.{complete-drop, sizeI-split, sizeI-build}
 use Rattle.particle.proofs.Laws.{part-is}
 use Rattle.particle.proofs.RoundTrip.{halves}
 
--- a number stored in the last two zero bytes of a record, of which the head reads none
-module _ (s : List ℕ) (v : ℕ) where
+-- the notes stored in the three zero bytes of a record, of which the head reads none
+module _ (s : List ℕ) (e v : ℕ) where
   abbrev Stored : List ℕ
-  Stored = sets s atSize (halfBytes v)
+  Stored = sets s atZero (e ∷ halfBytes v)
 
-  other : (i : ℕ) → (i ≡ atSize → ⊥) → (i ≡ suc atSize → ⊥) → getD Stored i 0 ≡ getD s i 0
-  other i m n = getD-set-other (set s atSize (v % 256)) (suc atSize) i (v / 256) 0 n ∙ getD-set-other s atSize i (v % 256) 0 m
+  other : (i : ℕ) → (i ≡ atZero → ⊥) → (i ≡ atSize → ⊥) → (i ≡ suc atSize → ⊥) → getD Stored i 0 ≡ getD s i 0
+  other i k m n = getD-set-other (set (set s atZero e) atSize (v % 256)) (suc atSize) i (v / 256) 0 n ∙ (getD-set-other (set s atZero e) atSize i (v % 256) 0 m ∙ getD-set-other s atZero i e 0 k)
 
-  before-it : (i : ℕ) → i < atSize → getD Stored i 0 ≡ getD s i 0
-  before-it i h = other i (λ e. omega arith) (λ e. omega arith)
+  before-it : (i : ℕ) → i < atZero → getD Stored i 0 ≡ getD s i 0
+  before-it i h = other i (λ q. omega arith) (λ q. omega arith) (λ q. omega arith)
 
   after-it : (i : ℕ) → suc atSize < i → getD Stored i 0 ≡ getD s i 0
-  after-it i h = other i (λ e. omega arith) (λ e. omega arith)
+  after-it i h = other i (λ q. omega arith) (λ q. omega arith) (λ q. omega arith)
 
   word-past : (i : ℕ) → suc atSize < i → word Stored i ≡ word s i
   word-past i h = rw (after-it i h, after-it (i + 1) (omega arith), after-it (i + 2) (omega arith), after-it (i + 3) (omega arith))
 
-  size-stored : recordSize ≤ length s → recordAt Stored ≡ withSize (recordAt s) v
-  size-stored h =
-      let low : getD Stored atSize 0 ≡ v % 256 = getD-set-other (set s atSize (v % 256)) (suc atSize) atSize (v / 256) 0 (λ e. omega arith) ∙ getD-set-same s atSize (v % 256) 0 (omega arith) in
-      let high : getD Stored (atSize + 1) 0 ≡ v / 256 = getD-set-same (set s atSize (v % 256)) (suc atSize) (v / 256) 0 (omega (arith, length-set s atSize (v % 256))) in
+  notes-stored : recordSize ≤ length s → recordAt Stored ≡ withNotes (recordAt s) e v
+  notes-stored h =
+      let one = set s atZero e in
+      let two = set one atSize (v % 256) in
+      let empty : getD Stored atZero 0 ≡ e = getD-set-other two (suc atSize) atZero (v / 256) 0 (λ q. omega arith) ∙ (getD-set-other one atSize atZero (v % 256) 0 (λ q. omega arith) ∙ getD-set-same s atZero e 0 (omega arith)) in
+      let low : getD Stored atSize 0 ≡ v % 256 = getD-set-other two (suc atSize) atSize (v / 256) 0 (λ q. omega arith) ∙ getD-set-same one atSize (v % 256) 0 (omega (arith, length-set s atZero e)) in
+      let high : getD Stored (atSize + 1) 0 ≡ v / 256 = getD-set-same two (suc atSize) (v / 256) 0 (omega (arith, length-set one atSize (v % 256), length-set s atZero e)) in
       let size : half Stored atSize ≡ v = rw (low, high) (halves v) in
-      rw (size, before-it atKind (omega arith), before-it atLeaf (omega arith), before-it atCount (omega arith), before-it (atCount + 1) (omega arith), before-it atUnbounded (omega arith), before-it atZero (omega arith), word-past atMin (omega arith), word-past atMax (omega arith))
+      rw (empty, size, before-it atKind (omega arith), before-it atLeaf (omega arith), before-it atCount (omega arith), before-it (atCount + 1) (omega arith), before-it atUnbounded (omega arith), word-past atMin (omega arith), word-past atMax (omega arith))
 
 -- a record is its bytes
 word-front : (n i : ℕ) (s : List ℕ) → i + 4 ≤ n → word (take n s) i ≡ word s i
@@ -100,9 +105,15 @@ module _ {before : List ℕ} where
         ∙ (ap recordAt (record-bytes t (omega (arith, a .within, a .same)) ∙ (ap (drop (at - recordSize)) (a .front) ∙ sym (record-bytes before (a .within))))
         ∙ record-front (drop (at - recordSize) before))
 
-    -- the records from there on
+    count-same : recordAt (drop (at - recordSize) t) .count ≡ recordAt (drop (at - recordSize) before) .count
+    count-same = ap (λ (r : Record). r .count) record-same
+
+    -- its items, and the records from there on
+    from-items : (l : List ℕ) → drop recordSize (drop (at - recordSize) l) ≡ drop at l
+    from-items l = drop-drop recordSize (at - recordSize) l ∙ ap (λ (n : ℕ). drop n l) ends
+
     from-here : (l : List ℕ) → recordSize ≤ length (drop (at - recordSize) l) → records (drop (at - recordSize) l) ≡ recordAt (drop (at - recordSize) l) ∷ records (drop at l)
-    from-here l h = records-cons (drop (at - recordSize) l) h ∙ ap (λ (k : List ℕ). recordAt (drop (at - recordSize) l) ∷ records k) (drop-drop recordSize (at - recordSize) l ∙ ap (λ (n : ℕ). drop n l) ends)
+    from-here l h = records-cons (drop (at - recordSize) l) h ∙ ap (λ (k : List ℕ). recordAt (drop (at - recordSize) l) ∷ records k) (from-items l)
 
     count-fits : recordAt (drop (at - recordSize) before) .count ≤ countI (decode (drop at t))
     unfolding Complete decode
@@ -113,12 +124,12 @@ module _ {before : List ℕ} where
         let d : Complete (recordAt (drop (at - recordSize) before) ∷ records (drop at before)) = rw (from-here before h) at c in
         rw (a .trees) (d .0)
 
-    -- with the record there as it was, or with another leaf number where it is a group's
+    -- with the record there as it was, or with its notes where it is a group's
     record-measured : {after : List ℕ} (r : Record) → length after ≡ length t → take (at - recordSize) after ≡ take (at - recordSize) t → drop at after ≡ drop at t → recordAt (drop (at - recordSize) after) ≡ r
         → headOf r ≡ headOf (recordAt (drop (at - recordSize) before)) → r .count ≡ recordAt (drop (at - recordSize) before) .count
-        → (2 ≤ r .kind → r .size ≡ suc (sizeI (row (r .count) (drop at t)))) → MeasuredFrom before after (at - recordSize)
-    unfolding Complete Measured decode build takeI sizeI
-    record-measured {after} r same front back here head count size =
+        → (2 ≤ r .kind → Noted r (build (r ∷ records (drop at t)))) → MeasuredFrom before after (at - recordSize)
+    unfolding Complete Measured decode build
+    record-measured {after} r same front back here head count notes =
         let h : recordSize ≤ length (drop (at - recordSize) before) = omega (arith, long, a .within, length-drop (at - recordSize) before) in
         let h′ : recordSize ≤ length (drop (at - recordSize) after) = omega (arith, long, a .within, a .same, same, length-drop (at - recordSize) after) in
         let rs : records (drop (at - recordSize) after) ≡ r ∷ records (drop at t) = from-here after h′ ∙ rw (here, back) in
@@ -131,7 +142,7 @@ module _ {before : List ℕ} where
           front = front ∙ (sym (take-take (at - recordSize) at t (omega arith)) ∙ (ap (take (at - recordSize)) (a .front) ∙ take-take (at - recordSize) at before (omega arith)));
           trees = rw (rs, from-here before h, head, count, a .trees);
           complete = rw rs (rw count count-fits, a .complete);
-          measured = rw rs (λ g. size g ∙ omega arith, a .measured);
+          measured = rw rs (notes, a .measured);
         }
 
     kind-is : recordAt (drop (at - recordSize) t) .kind ≡ getD t (at - recordSize + atKind) 0
@@ -139,42 +150,74 @@ module _ {before : List ℕ} where
 
     -- a leaf's record stays as it is
     pub leaf-measured : getD t (at - recordSize + atKind) 0 < 2 → MeasuredFrom before t (at - recordSize)
-    leaf-measured n = record-measured (recordAt (drop (at - recordSize) t)) refl refl refl refl (ap headOf record-same) (ap (λ (r : Record). r .count) record-same) (λ g. absurd (omega (arith, n, g, kind-is)))
+    leaf-measured n = record-measured (recordAt (drop (at - recordSize) t)) refl refl refl refl (ap headOf record-same) count-same (λ g. absurd (omega (arith, n, g, kind-is)))
 
-    -- a group of `count` items, whose bytes are handed on as `&t[at + RECORD_SIZE..]`
-    module _ {count : ℕ} (c : count ≡ recordAt (drop (at - recordSize) t) .count) where
-      abbrev Rest : List ℕ
-      Rest = take (length t - (at - recordSize + recordSize)) (drop (at - recordSize + recordSize) t)
+    -- a group
+    module _ (g : 2 ≤ getD t (at - recordSize + atKind) 0) where
+      -- whose bytes are lent as `&t[at..]`
+      abbrev Here : List ℕ
+      Here = take (length t - (at - recordSize)) (drop (at - recordSize) t)
 
-      rest-is : Rest ≡ drop at t
-      rest-is = part-is t (at - recordSize + recordSize) ∙ ap (λ (k : ℕ). drop k t) ends
+      here-is : Here ≡ drop (at - recordSize) t
+      here-is = part-is t (at - recordSize)
 
-      pub items-measured : Run count Rest
-      items-measured =
-          let e : count ≡ recordAt (drop (at - recordSize) before) .count = c ∙ ap (λ (r : Record). r .count) record-same in
-          rw rest-is (record { row = record { even = omega (arith, a .whole .even, a .same, a .even, a .within, length-drop at t); complete = a .complete; enough = rw e count-fits }; measured = a .measured; few = omega (arith, a .few, a .same, length-drop at t) })
+      items-measured : Run (recordAt (drop (at - recordSize) t) .count) (drop at t)
+      items-measured = record {
+        row = record { even = omega (arith, a .whole .even, a .same, a .even, a .within, length-drop at t); complete = a .complete; enough = omega (arith, count-same, count-fits) };
+        measured = a .measured;
+        few = omega (arith, a .few, a .same, length-drop at t);
+      }
 
-      -- whose items take n bytes
-      module _ {n : ℕ} (e : n ≡ recordSize * sizeI (row count Rest)) where
-        size-is : n / recordSize + 1 ≡ suc (sizeI (row (recordAt (drop (at - recordSize) t) .count) (drop at t)))
-        size-is =
-            let f : n ≡ recordSize * sizeI (row count (drop at t)) = rw rest-is at e in
-            rw (← c) (omega (arith, f))
+      pub group-lent : ItemsMeasured Here
+      unfolding Complete decode build countI
+      group-lent =
+          let rs : records (drop (at - recordSize) t) ≡ recordAt (drop (at - recordSize) t) ∷ records (drop at t) = from-here t record-long in
+          rw here-is (record {
+            whole = record { even = omega (arith, a .whole .even, a .same, a .even, a .within, long, length-drop (at - recordSize) t); complete = rw rs (omega (arith, items-measured .row .enough), a .complete); enough = rw rs (omega arith) };
+            group = omega (arith, g, kind-is);
+            items = rw (from-items t) items-measured;
+          })
 
-        pub size-fits : n / recordSize + 1 ≤ maxRecords
-        unfolding decode
-        size-fits = omega (arith, size-is, sizeI-split (recordAt (drop (at - recordSize) t) .count) (build (records (drop at t))), sizeI-build (records (drop at t)), length-records (drop at t), length-drop at t, a .same, long, a .few)
+      -- of `count` items, whose bytes are lent as `&t[at + RECORD_SIZE..]`
+      module _ {count : ℕ} (c : count ≡ recordAt (drop (at - recordSize) t) .count) where
+        abbrev Rest : List ℕ
+        Rest = take (length t - (at - recordSize + recordSize)) (drop (at - recordSize + recordSize) t)
 
-        pub group-measured : {after : List ℕ} → after ≡ sets t (at - recordSize + atSize) (halfBytes (n / recordSize + 1)) → MeasuredFrom before after (at - recordSize)
-        group-measured g =
-            let p = at - recordSize in
-            let v = n / recordSize + 1 in
-            let q : suc (p + atSize) ≡ p + suc atSize = omega arith in
-            let after = sets t (p + atSize) (halfBytes v) in
-            let one = set t (p + atSize) (v % 256) in
-            rw g
-            (record-measured (withSize (recordAt (drop p t)) v) (length-sets t (p + atSize) (halfBytes v))
-            (take-set-le p one (suc (p + atSize)) (v / 256) (omega arith) ∙ take-set-le p t (p + atSize) (v % 256) (omega arith))
-            (drop-set-lt at one (suc (p + atSize)) (v / 256) (omega (arith, long)) ∙ drop-set-lt at t (p + atSize) (v % 256) (omega (arith, long)))
-            (ap recordAt (ap (λ (i : ℕ). drop p (set one i (v / 256))) q ∙ (drop-set-add p one (suc atSize) (v / 256) ∙ ap (λ (l : List ℕ). set l (suc atSize) (v / 256)) (drop-set-add p t atSize (v % 256)))) ∙ size-stored (drop p t) v record-long)
-            (ap headOf record-same) (ap (λ (r : Record). r .count) record-same) (λ _. size-is))
+        rest-is : Rest ≡ drop at t
+        rest-is = part-is t (at - recordSize + recordSize) ∙ ap (λ (k : ℕ). drop k t) ends
+
+        pub items-lent : Run count Rest
+        items-lent = rw (rest-is, c) items-measured
+
+        -- they take n bytes, and e says whether the group is emptiable
+        module _ {n : ℕ} (takes : n ≡ recordSize * sizeI (row count Rest)) where
+          size-is : n / recordSize + 1 ≡ suc (sizeI (row (recordAt (drop (at - recordSize) t) .count) (drop at t)))
+          size-is =
+              let f : n ≡ recordSize * sizeI (row count (drop at t)) = rw rest-is at takes in
+              rw (← c) (omega (arith, f))
+
+          pub size-fits : n / recordSize + 1 ≤ maxRecords
+          unfolding decode
+          size-fits = omega (arith, size-is, sizeI-split (recordAt (drop (at - recordSize) t) .count) (build (records (drop at t))), sizeI-build (records (drop at t)), length-records (drop at t), length-drop at t, a .same, long, a .few)
+
+          module _ {e : Bool} (empty : e ≡ emptiable (tree Here)) where
+            notes : Noted (withNotes (recordAt (drop (at - recordSize) t)) (flag e) (n / recordSize + 1)) (build (withNotes (recordAt (drop (at - recordSize) t)) (flag e) (n / recordSize + 1) ∷ records (drop at t)))
+            unfolding tree decode build takeI sizeI
+            notes =
+                let r = withNotes (recordAt (drop (at - recordSize) t)) (flag e) (n / recordSize + 1) in
+                let same : tree Here ≡ firstOf (build (r ∷ records (drop at t))) = rw (here-is, from-here t record-long) in
+                record { empty = ap flag (empty ∙ ap emptiable same); size = size-is ∙ omega arith }
+
+            pub group-measured : {after : List ℕ} → after ≡ sets (set t (at - recordSize + atZero) (flag e)) (at - recordSize + atSize) (halfBytes (n / recordSize + 1)) → MeasuredFrom before after (at - recordSize)
+            group-measured s =
+                let p = at - recordSize in
+                let v = n / recordSize + 1 in
+                let q : suc (p + atSize) ≡ p + suc atSize = omega arith in
+                let one = set t (p + atZero) (flag e) in
+                let two = set one (p + atSize) (v % 256) in
+                rw s
+                (record-measured (withNotes (recordAt (drop p t)) (flag e) v) (length-sets one (p + atSize) (halfBytes v) ∙ length-set t (p + atZero) (flag e))
+                (take-set-le p two (suc (p + atSize)) (v / 256) (omega arith) ∙ (take-set-le p one (p + atSize) (v % 256) (omega arith) ∙ take-set-le p t (p + atZero) (flag e) (omega arith)))
+                (drop-set-lt at two (suc (p + atSize)) (v / 256) (omega (arith, long)) ∙ (drop-set-lt at one (p + atSize) (v % 256) (omega (arith, long)) ∙ drop-set-lt at t (p + atZero) (flag e) (omega (arith, long))))
+                (ap recordAt (ap (λ (i : ℕ). drop p (set two i (v / 256))) q ∙ (drop-set-add p two (suc atSize) (v / 256) ∙ ap (λ (l : List ℕ). set l (suc atSize) (v / 256)) (drop-set-add p one atSize (v % 256) ∙ ap (λ (l : List ℕ). set l atSize (v % 256)) (drop-set-add p t atZero (flag e))))) ∙ notes-stored (drop p t) (flag e) v record-long)
+                (ap headOf record-same) count-same (λ _. notes))

@@ -1,14 +1,17 @@
--- The laws of measured trees: fewer of them, their items, and the trees after the first. Assumes nothing.
+-- The laws of measured trees: fewer of them, their items, the trees after the first, and what a group's record tells. Assumes nothing.
+use mathlib.Core.Bool.{Bool, true, false}
 use mathlib.Core.Path.{_≡_, refl, ap, _∙_}
 use mathlib.Core.List.{List, [], _∷_}
 use Prim.Native.Nat.{ℕ, zero, suc, _+_, _*_, _-_, _≤_, _<_}
 use native.Mathlib.Omega.{arith}
+use lib.Dec.{eqb}
 use lib.ListN.{length, drop, length-drop}
 use Rattle.particle.specs.declared.Record.{Record}
 use Rattle.particle.specs.Record.{recordSize, maxRecords, recordAt}
-use Rattle.particle.specs.Tree.{takeI, sizeI, build, records, decode}
+use Rattle.particle.specs.Tree.{takeI, sizeI, build, records, decode, tree}
 use Rattle.particle.specs.Rows.{row, runSize, itemsPart, laterPart}
-use Rattle.particle.specs.Runs.{Measured, Run}
+use Rattle.particle.specs.Empty.{emptiable}
+use Rattle.particle.specs.Runs.{flag, Noted, Measured, Run, ItemsMeasured}
 use Rattle.particle.proofs.Records.{records-cons, records-drop, length-records}
 use Rattle.particle.proofs.Trees.{countI-le, sizeI-build}
 use Rattle.particle.proofs.Laws.{row-le, row-sizes, run-is, run-within, some-bytes, items-row, later-row}
@@ -39,12 +42,47 @@ module _ {n : ℕ} {t : List ℕ} (w : Run (suc n) t) where
   unfolding runSize
   later-run = record { row = later-row (w .row); measured = measured-from (sizeI (row 1 t)) t (w .measured); few = omega (arith, w .few, length-drop (runSize t) t) }
 
-  -- a group's record tells where the next tree starts
-  pub group-run : 2 ≤ recordAt t .kind → recordSize * recordAt t .size ≡ runSize t
-  unfolding Measured runSize decode
-  group-run g =
+  -- what a group's record tells of its tree
+  group-noted : 2 ≤ recordAt t .kind → Noted (recordAt t) (decode t)
+  unfolding Measured decode
+  group-noted g =
       let m : Measured (recordAt t ∷ records (itemsPart t)) = rw (records-cons t (some-bytes (w .row))) at (w .measured) in
-      rw (records-cons t (some-bytes (w .row))) (ap (λ (k : ℕ). recordSize * k) (m .0 g))
+      rw (records-cons t (some-bytes (w .row))) (m .0 g)
+
+  -- where the next tree starts
+  pub group-run : 2 ≤ recordAt t .kind → recordSize * recordAt t .size ≡ runSize t
+  unfolding runSize
+  group-run g = ap (λ (k : ℕ). recordSize * k) (group-noted g .size)
+
+  -- whether it is emptiable
+  group-empty : 2 ≤ recordAt t .kind → recordAt t .zero ≡ flag (emptiable (tree t))
+  unfolding tree
+  group-empty g = group-noted g .empty
+
+flag-read : {n : ℕ} (e : Bool) → n ≡ flag e → eqb n 1 ≡ e
+flag-read true q = rw q
+flag-read false q = rw q
+
+-- r is the first tree's record
+pub group-note : {t : List ℕ} {r : Record} → Run 1 t → r ≡ recordAt t → 2 ≤ r .kind → eqb (r .zero) 1 ≡ emptiable (tree t)
+group-note {t} {r} w e g = flag-read (emptiable (tree t)) (ap (λ (r : Record). r .zero) e ∙ group-empty w (rw e at g))
+
+module _ {t : List ℕ} {r : Record} (w : ItemsMeasured t) (e : r ≡ recordAt t) where
+  pub group-kind : 2 ≤ r .kind
+  group-kind = rw e (w .group)
+
+  pub group-items : {s : List ℕ} → s ≡ itemsPart t → Run (r .count) s
+  group-items p = rw (e, p) (w .items)
+
+-- more than m trees
+module _ {m n : ℕ} {t : List ℕ} (w : Run n t) (some : m < n) where
+  pub first-run : Run 1 t
+  first-run = run-le (omega arith) w
+
+  pub rest-run : {s : List ℕ} → s ≡ laterPart t → Run (n - 1) s
+  rest-run e =
+      let from : Run (suc (n - 1)) t = run-le (omega arith) w in
+      rw e (later-run from)
 
 -- Walking over n trees of t: of the bytes that they take, those of the trees in `rest` are left.
 pub record RowLeft (n : ℕ) (t rest : List ℕ) (left : ℕ) : Type 0 where
@@ -57,8 +95,7 @@ row-start w = record { trees = w; unread = refl }
 module _ {n : ℕ} {t rest : List ℕ} {left : ℕ} (a : RowLeft n t rest left) where
   pub row-next : {after : List ℕ} → 0 < left → after ≡ laterPart rest → RowLeft n t after (left - 1)
   row-next h p =
-      let w : Run (suc (left - 1)) rest = run-le (omega arith) (a .trees) in
-      rw p (record { trees = later-run w; unread = omega (arith, a .unread, row-sizes (a .trees .row) h, run-is rest, run-within rest, length-drop (runSize rest) rest) })
+      rw p (record { trees = rest-run (a .trees) h refl; unread = omega (arith, a .unread, row-sizes (a .trees .row) h, run-is rest, run-within rest, length-drop (runSize rest) rest) })
 
   pub row-done : left ≤ 0 → length rest + recordSize * sizeI (row n t) ≡ length t
   unfolding takeI sizeI

@@ -47,8 +47,8 @@ half s i = getD s i 0 + getD s (i + 1) 0 * 256
 abbrev pub word : List ℕ → ℕ → ℕ
 word s i = getD s i 0 + getD s (i + 1) 0 * 256 + getD s (i + 2) 0 * 65536 + getD s (i + 3) 0 * 16777216
 
--- the record that t starts with: kind, leaf number, item count, unbounded mark, three zero bytes, minimum, maximum; `size` is the last two of the zero bytes, in
--- which a measured tree has a number (Runs)
+-- the record that t starts with: kind, leaf number, item count, unbounded mark, three zero bytes, minimum, maximum; `zero` is the first of the zero bytes and `size`
+-- the last two, in which a measured tree has its notes (Runs)
 abbrev pub recordAt : List ℕ → Record
 recordAt t =
     record { kind = getD t atKind 0; leaf = getD t atLeaf 0; count = half t atCount; unbounded = getD t atUnbounded 0; zero = getD t atZero 0; size = half t atSize; min = word t atMin; max = word t atMax }

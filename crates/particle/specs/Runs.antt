@@ -1,20 +1,38 @@
--- Measured trees: a group's record tells how many records its tree takes. Assumes nothing: these are definitions.
+-- Measured trees: a group's record tells how many records its tree takes, and whether it is emptiable. Assumes nothing: these are definitions.
+use mathlib.Core.Bool.{Bool, true, false}
 use mathlib.Core.List.{List, [], _∷_}
 use mathlib.Core.Path.{_≡_}
 use Prim.Native.Nat.{ℕ, _*_, _≤_}
 use lib.ListN.{length}
 use Rattle.particle.specs.declared.Record.{Record}
-use Rattle.particle.specs.Record.{recordSize, maxRecords}
-use Rattle.particle.specs.Tree.{takeI, sizeI, build, records}
-use Rattle.particle.specs.Rows.{Row}
+use Rattle.particle.specs.Record.{recordSize, maxRecords, recordAt}
+use Rattle.particle.specs.Tree.{Items, takeI, sizeI, build, records, firstOf}
+use Rattle.particle.specs.Rows.{Row, itemsPart}
+use Rattle.particle.specs.Empty.{emptiable}
 
--- each group's record has the number of its tree's records in its last two zero bytes
+-- yes is noted as 1, no as 0
+abbrev pub flag : Bool → ℕ
+flag true = 1
+flag false = 0
+
+-- r has what is noted of the first tree of x: in its first zero byte whether the tree is emptiable, in the last two the number of its records
+pub record Noted (r : Record) (x : Items) : Type 0 where
+  pub empty : r .zero ≡ flag (emptiable (firstOf x))
+  pub size : r .size ≡ sizeI (takeI 1 x)
+
+-- each group's record has what is noted of its tree
 unfoldable pub Measured : List Record → Type 0
 Measured [] = Unit {0}
-Measured (r ∷ rs) = (2 ≤ r .kind → r .size ≡ sizeI (takeI 1 (build (r ∷ rs)))) × Measured rs
+Measured (r ∷ rs) = (2 ≤ r .kind → Noted r (build (r ∷ rs))) × Measured rs
 
 -- t is n measured trees or more, and no more bytes than a tree can have
 pub record Run (n : ℕ) (t : List ℕ) : Type 0 where
   pub row : Row n t
   pub measured : Measured (records t)
   pub few : length t ≤ recordSize * maxRecords
+
+-- t starts with a group, whose items are measured
+pub record ItemsMeasured (t : List ℕ) : Type 0 where
+  pub whole : Row 1 t
+  pub group : 2 ≤ recordAt t .kind
+  pub items : Run (recordAt t .count) (itemsPart t)

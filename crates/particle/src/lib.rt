@@ -11,6 +11,7 @@ ghost use Rattle.particle.specs.Write.{overwrite};
 ghost use Rattle.particle.specs.Tree.{sequence, records};
 ghost use Rattle.particle.specs.Encode.{recordOf};
 ghost use Rattle.particle.specs.Rows.{Row, itemsPart, laterPart, runSize, itemStart, itemRun, ItemAt, PartOf};
+pub use measured::emptiable;
 pub use measured::measure;
 pub use measured::next;
 
@@ -59,7 +60,7 @@ pub struct Occurs {
     pub max: MaxOccurs,
 }
 
-// One record, taken apart. `zero` and `size` are its three zero bytes; a measured tree has a number in `size`.
+// One record, taken apart. `zero` and `size` are its three zero bytes; a measured tree has its notes there (measured.rt).
 pub struct Record {
     pub kind: u8,
     pub leaf: u8,

@@ -1,7 +1,6 @@
 pub mod Cuts
 pub mod CutSums
 pub mod Falls
-pub mod Emptiness
 pub mod TotalRange
 pub mod Gathered
 pub mod Standard

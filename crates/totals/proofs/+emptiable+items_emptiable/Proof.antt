@@ -9,8 +9,8 @@ use Rattle.particle.proofs.items.Reads as items-reads
 use Rattle.particle.proofs.later.Reads as later-reads
 use Rattle.particle.proofs.record_at.Reads as record-at-reads
 use Rattle.particle.proofs.Laws.{some-bytes}
-use Rattle.totals.proofs.Falls.{ofTree, ofRow, part-first, part-falls, items-trees, items-fall}
-use Rattle.totals.proofs.Emptiness.{optional-tree, leaf-tree, empty-choice, choice-tree, ordered-tree, ItemsLeft, items-start, items-end, item-decides, items-next}
+use Rattle.particle.proofs.Emptiness.{optional-tree, leaf-tree, empty-choice, choice-tree, ordered-tree, ItemsLeft, items-start, items-end, item-decides, items-next}
+use Rattle.totals.proofs.Falls.{ofTree, ofRow, Part, part-start, part-first, part-falls, part-next, items-trees, items-fall}
 use Rattle.totals.proofs.emptiable.Reads as emptiable
 use Rattle.totals.proofs.emptiable.Kinds as emptiable-kinds
 use Rattle.totals.proofs.+emptiable+items_emptiable.Lts-emptiable as emptiable-lts
@@ -46,7 +46,7 @@ module _ (t : ℕ) where
   items-calls = (one-below, emptiable.Post, later-reads.Asked, later-reads.Learnt)
 
 abbrev Inv-loop : items-emptiable-lts.InvT-loop
-Inv-loop t n each items₀ left₀ items left = ItemsLeft each n t items left
+Inv-loop t n each items₀ left₀ items left = Part left items t × ItemsLeft each n t items left
 
 abbrev μ-loop : items-emptiable-lts.MeasureT-loop
 μ-loop t n each items₀ left₀ items left = left
@@ -69,11 +69,11 @@ pub +emptiable+items-emptiable-spec : {M : Type 1} → statement M
     λ t. items-emptiable-lts.spec (items-calls t) (items-at t) items-emptiable.Post
     Inv-loop
     μ-loop
-    (λ c. search items-start)
+    (λ c. search (part-start, items-start))
     (λ c κs. (search part-falls, search part-first))
     (λ c. search (item-decides, not-true))
     (λ c κs. search part-first)
     (λ c. omega arith)
     (λ c. omega arith)
-    (λ c. search (items-next, not-false))
+    (λ c. search (part-next, items-next, not-false))
     (λ c. search items-end)

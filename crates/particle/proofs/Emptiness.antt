@@ -5,15 +5,15 @@ use mathlib.Core.Path.{_≡_, refl, ap, sym, _∙_}
 use Prim.Native.Nat.{ℕ, _-_, _≤_, _<_}
 use native.Mathlib.Omega.{arith}
 use borrow.Author.Tests.{ne-eqb}
+use lib.Dec.{eqb}
 use Rattle.particle.specs.declared.Occurs.{Occurs}
 use Rattle.particle.specs.declared.Record.{Record}
 use Rattle.particle.specs.Record.{recordAt, rangeOf}
 use Rattle.particle.specs.Tree.{headFrom, fold, tree}
 use Rattle.particle.specs.Rows.{Row, row, itemsPart, laterPart}
 use Rattle.particle.specs.Empty.{every, some, everyOrSome, isEmpty, optional, emptiableFrom, emptiable}
 use Rattle.particle.proofs.ByKind.{any-kind}
 use Rattle.particle.proofs.Folds.{first-is, items-are, first-leaf, first-choice, first-ordered, fold-none, fold-some}
-use Rattle.totals.proofs.Falls.{Part, part-start, part-next}
 
 optional-from : (k l : ℕ) (p : Occurs) (es : List Bool) → p .min ≡ 0 → emptiableFrom (headFrom k l p) es ≡ true
 optional-from k l p es z = any-kind (λ h. emptiableFrom h es ≡ true) l p (rw z) (rw z) (rw z) (rw z) (rw z) k
@@ -28,10 +28,13 @@ module _ {t : List ℕ} {r : Record} (w : Row 1 t) (e : r ≡ recordAt t) where
   unfolding emptiable
   optional-tree z = sym (first-is emptiableFrom w e ∙ optional-from (r .kind) (r .leaf) (rangeOf r) _ z)
 
+  pub by-minimum : r .kind < 2 → eqb (r .min) 0 ≡ emptiable (tree t)
+  unfolding emptiable
+  by-minimum k = sym (first-leaf emptiableFrom w e (λ l p es. refl) k)
+
   module _ (z : r .min ≡ 0 → ⊥) where
     pub leaf-tree : r .kind < 2 → false ≡ emptiable (tree t)
-    unfolding emptiable
-    leaf-tree k = sym (first-leaf emptiableFrom w e (λ l p es. refl) k ∙ ne-eqb (r .min) 0 z)
+    leaf-tree k = sym (ne-eqb (r .min) 0 z) ∙ by-minimum k
 
     pub empty-choice : r .kind ≡ 3 → r .count ≡ 0 → true ≡ emptiable (tree t)
     unfolding emptiable
@@ -71,25 +74,24 @@ first-decides false false fs s = absurd (true≢false s)
 
 -- The loop over the items: each of those before s is as `each` asks, so what is left, i items from s on, decides.
 pub record ItemsLeft (each : Bool) (n : ℕ) (t s : List ℕ) (i : ℕ) : Type 0 where
-  pub part : Part i s t
   pub rest-says : everyOrSome each (fold emptiableFrom (row n t)) ≡ everyOrSome each (fold emptiableFrom (row i s))
 
 module _ {each : Bool} {n : ℕ} {t : List ℕ} where
-  pub items-start : Row n t → ItemsLeft each n t t n
-  items-start w = record { part = part-start w; rest-says = refl }
+  pub items-start : ItemsLeft each n t t n
+  items-start = record { rest-says = refl }
 
   module _ {s : List ℕ} {i : ℕ} (w : ItemsLeft each n t s i) where
     pub items-end : i ≤ 0 → each ≡ everyOrSome each (fold emptiableFrom (row n t))
     items-end z = none-decides each ∙ sym (w .rest-says ∙ ap (everyOrSome each) (fold-none emptiableFrom i s (omega arith)))
 
     -- e: whether the next item is emptiable
-    module _ {m : ℕ} (some : m < i) {e : Bool} (q : e ≡ emptiable (tree s)) where
+    module _ (trees : Row i s) {m : ℕ} (some : m < i) {e : Bool} (q : e ≡ emptiable (tree s)) where
       first-then-later : {u : List ℕ} → u ≡ laterPart s → everyOrSome each (fold emptiableFrom (row n t)) ≡ everyOrSome each (e ∷ fold emptiableFrom (row (i - 1) u))
       unfolding emptiable
-      first-then-later p = w .rest-says ∙ ap (everyOrSome each) (fold-some emptiableFrom i s (w .part .trees) (λ z. omega arith) q p)
+      first-then-later p = w .rest-says ∙ ap (everyOrSome each) (fold-some emptiableFrom i s trees (λ z. omega arith) q p)
 
       pub item-decides : Bool·beq e each ≡ false → e ≡ everyOrSome each (fold emptiableFrom (row n t))
       item-decides b = first-decides each e _ b ∙ sym (first-then-later refl)
 
       pub items-next : {u : List ℕ} → u ≡ laterPart s → Bool·beq e each ≡ true → ItemsLeft each n t u (i - 1)
-      items-next p b = record { part = part-next (w .part) some p; rest-says = first-then-later p ∙ sym (later-decide each e _ b) }
+      items-next p b = record { rest-says = first-then-later p ∙ sym (later-decide each e _ b) }
