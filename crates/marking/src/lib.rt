@@ -45,7 +45,7 @@ fn never(t: &[u8]) -> bool
 // The early pass: the derived root has maximum 0, and the base root has maximum 0 or is emptiable.
 fn early_pass(d: &[u8], b: &[u8]) -> bool
     requires { ⌜ Row 1 (now d) ⌝ }
-    requires { ⌜ Row 1 (now b) ⌝ }
+    requires { ⌜ Run 1 (now b) ⌝ }
     ensures { λ r. ⌜ r ≡ earlyPass (tree (now (d .entry))) (tree (now (b .entry))) ⌝ }
 {
     if !never(d) {
@@ -54,7 +54,7 @@ fn early_pass(d: &[u8], b: &[u8]) -> bool
     if never(b) {
         return true;
     }
-    totals::emptiable(b)
+    particle::emptiable(b)
 }
 
 // The mark of two tidied trees, by the leaves and the tables of a sheet with n leaves.

@@ -22,7 +22,7 @@ pub fn left_over(bs: &[u8], bn: usize) -> Verdict
     let mut bitems = bs;
     let mut j = bn;
     while 0 < j {
-        if !totals::emptiable(bitems) {
+        if !particle::emptiable(bitems) {
             return Verdict::Violation(Reason::RequiredMissing);
         }
         let next = particle::next(bitems);

@@ -2,6 +2,7 @@
 use Prim.Native.Nat.{ℕ, _<_}
 use borrow.Fn.Kinds.{In}
 use borrow.Fn.PlainCycle.{Measures, is, falls, and}
+use Rattle.particle.proofs.emptiable.Reads as emptiable-reads
 use Rattle.particle.proofs.items.Reads as items-reads
 use Rattle.particle.proofs.next.Reads as next-reads
 use Rattle.particle.proofs.range_ok.Reads as range-ok-reads
@@ -24,7 +25,6 @@ use Rattle.restriction.proofs.rows.group_all.Reads as group-all-reads
 use Rattle.restriction.proofs.rows.left_over.Reads as left-over-reads
 use Rattle.totals.proofs.effective_total_range.Reads as effective-total-range-reads
 use Rattle.totals.proofs.total_ok.Reads as total-ok-reads
-use Rattle.totals.proofs.emptiable.Reads as emptiable-reads
 use Rattle.verdicts.proofs.combine_readings.Reads as combine-readings-reads
 use Rattle.verdicts.proofs.definite.Reads as definite-reads
 use Rattle.verdicts.proofs.element_restrict.Reads as element-restrict-reads
