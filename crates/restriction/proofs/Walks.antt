@@ -8,7 +8,7 @@ use Rattle.particle.specs.Occurs.{rangeOk}
 use Rattle.particle.specs.Tree.{Items, none, item, Particle, single, tree}
 use Rattle.particle.specs.Rows.{row, laterPart}
 use Rattle.particle.specs.Runs.{Run}
-use Rattle.totals.specs.Empty.{emptiable}
+use Rattle.particle.specs.Empty.{emptiable}
 use Rattle.rules.specs.Verdicts.{Mark, passes, undecided, fails}
 use Rattle.rules.specs.Combine.{_orFails_, _andThen_, _orElse_, combineReadings}
 use Rattle.rules.specs.Walk.{Judge, leftOver, recurseOrdered, alternatives}

@@ -5,7 +5,7 @@ ghost use Rattle.particle.specs.Occurs.{rangeOk, exactly};
 ghost use Rattle.particle.specs.Tree.{tree};
 ghost use Rattle.particle.specs.Rows.{row};
 ghost use Rattle.particle.specs.Runs.{Run};
-ghost use Rattle.totals.specs.Empty.{emptiable};
+ghost use Rattle.particle.specs.Empty.{emptiable};
 ghost use Rattle.rules.specs.Verdicts.{fails};
 ghost use Rattle.rules.specs.Combine.{_orFails_, _andThen_, combineReadings};
 ghost use Rattle.rules.specs.Element.{elementRestrict};
@@ -93,7 +93,7 @@ pub fn walk_on(
             if lax {
                 return Standing::On;
             }
-            if totals::emptiable(b) {
+            if particle::emptiable(b) {
                 return Standing::On;
             }
             Standing::Ended(Verdict::Violation(r))
