@@ -1,5 +1,4 @@
 -- The loop of `measure`: from a byte on, each group is measured, and the trees are those that they were. Assumes nothing.
-use mathlib.Core.Bool.{Bool}
 use mathlib.Core.Path.{_≡_, refl, ap, sym, _∙_}
 use mathlib.Core.List.{List, [], _∷_}
 use Prim.Native.Nat.{ℕ, zero, suc, _+_, _*_, _-_, _/_, _%_, _≤_, _<_}
@@ -11,7 +10,7 @@ use Rattle.particle.specs.Record.{recordSize, maxRecords, atKind, atLeaf
 use Rattle.particle.specs.Tree.{takeI, countI, sizeI, headOf, build, records, decode, firstOf, tree}
 use Rattle.particle.specs.Rows.{Complete, Row, row}
 use Rattle.particle.specs.Empty.{emptiable}
-use Rattle.particle.specs.Runs.{flag, Noted, Measured, Run, ItemsMeasured}
+use Rattle.particle.specs.Runs.{Told, Noted, Measured, Run, ItemsMeasured}
 use Rattle.particle.proofs.Fields.{withNotes}
 use Rattle.particle.proofs.Records.{records-cons, records-short, records-drop, length-records}
 use Rattle.particle.proofs.Trees.{complete-drop, sizeI-split, sizeI-build}
@@ -189,7 +188,7 @@ module _ {before : List ℕ} where
         pub items-lent : Run count Rest
         items-lent = rw (rest-is, c) items-measured
 
-        -- they take n bytes, and e says whether the group is emptiable
+        -- they take n bytes, and e is what is noted of the group
         module _ {n : ℕ} (takes : n ≡ recordSize * sizeI (row count Rest)) where
           size-is : n / recordSize + 1 ≡ suc (sizeI (row (recordAt (drop (at - recordSize) t) .count) (drop at t)))
           size-is =
@@ -200,24 +199,24 @@ module _ {before : List ℕ} where
           unfolding decode
           size-fits = omega (arith, size-is, sizeI-split (recordAt (drop (at - recordSize) t) .count) (build (records (drop at t))), sizeI-build (records (drop at t)), length-records (drop at t), length-drop at t, a .same, long, a .few)
 
-          module _ {e : Bool} (empty : e ≡ emptiable (tree Here)) where
-            notes : Noted (withNotes (recordAt (drop (at - recordSize) t)) (flag e) (n / recordSize + 1)) (build (withNotes (recordAt (drop (at - recordSize) t)) (flag e) (n / recordSize + 1) ∷ records (drop at t)))
+          module _ (e : ℕ) (empty : Told e (emptiable (tree Here))) where
+            notes : Noted (withNotes (recordAt (drop (at - recordSize) t)) e (n / recordSize + 1)) (build (withNotes (recordAt (drop (at - recordSize) t)) e (n / recordSize + 1) ∷ records (drop at t)))
             unfolding tree decode build takeI sizeI
             notes =
-                let r = withNotes (recordAt (drop (at - recordSize) t)) (flag e) (n / recordSize + 1) in
+                let r = withNotes (recordAt (drop (at - recordSize) t)) e (n / recordSize + 1) in
                 let same : tree Here ≡ firstOf (build (r ∷ records (drop at t))) = rw (here-is, from-here t record-long) in
-                record { empty = ap flag (empty ∙ ap emptiable same); size = size-is ∙ omega arith }
+                record { empty = rw same at empty; size = size-is ∙ omega arith }
 
-            pub group-measured : {after : List ℕ} → after ≡ sets (set t (at - recordSize + atZero) (flag e)) (at - recordSize + atSize) (halfBytes (n / recordSize + 1)) → MeasuredFrom before after (at - recordSize)
+            pub group-measured : {after : List ℕ} → after ≡ sets (set t (at - recordSize + atZero) e) (at - recordSize + atSize) (halfBytes (n / recordSize + 1)) → MeasuredFrom before after (at - recordSize)
             group-measured s =
                 let p = at - recordSize in
                 let v = n / recordSize + 1 in
                 let q : suc (p + atSize) ≡ p + suc atSize = omega arith in
-                let one = set t (p + atZero) (flag e) in
+                let one = set t (p + atZero) e in
                 let two = set one (p + atSize) (v % 256) in
                 rw s
-                (record-measured (withNotes (recordAt (drop p t)) (flag e) v) (length-sets one (p + atSize) (halfBytes v) ∙ length-set t (p + atZero) (flag e))
-                (take-set-le p two (suc (p + atSize)) (v / 256) (omega arith) ∙ (take-set-le p one (p + atSize) (v % 256) (omega arith) ∙ take-set-le p t (p + atZero) (flag e) (omega arith)))
-                (drop-set-lt at two (suc (p + atSize)) (v / 256) (omega (arith, long)) ∙ (drop-set-lt at one (p + atSize) (v % 256) (omega (arith, long)) ∙ drop-set-lt at t (p + atZero) (flag e) (omega (arith, long))))
-                (ap recordAt (ap (λ (i : ℕ). drop p (set two i (v / 256))) q ∙ (drop-set-add p two (suc atSize) (v / 256) ∙ ap (λ (l : List ℕ). set l (suc atSize) (v / 256)) (drop-set-add p one atSize (v % 256) ∙ ap (λ (l : List ℕ). set l atSize (v % 256)) (drop-set-add p t atZero (flag e))))) ∙ notes-stored (drop p t) (flag e) v record-long)
+                (record-measured (withNotes (recordAt (drop p t)) e v) (length-sets one (p + atSize) (halfBytes v) ∙ length-set t (p + atZero) e)
+                (take-set-le p two (suc (p + atSize)) (v / 256) (omega arith) ∙ (take-set-le p one (p + atSize) (v % 256) (omega arith) ∙ take-set-le p t (p + atZero) e (omega arith)))
+                (drop-set-lt at two (suc (p + atSize)) (v / 256) (omega (arith, long)) ∙ (drop-set-lt at one (p + atSize) (v % 256) (omega (arith, long)) ∙ drop-set-lt at t (p + atZero) e (omega (arith, long))))
+                (ap recordAt (ap (λ (i : ℕ). drop p (set two i (v / 256))) q ∙ (drop-set-add p two (suc atSize) (v / 256) ∙ ap (λ (l : List ℕ). set l (suc atSize) (v / 256)) (drop-set-add p one atSize (v % 256) ∙ ap (λ (l : List ℕ). set l atSize (v % 256)) (drop-set-add p t atZero e)))) ∙ notes-stored (drop p t) e v record-long)
                 (ap headOf record-same) count-same (λ _. notes))

@@ -1,17 +1,15 @@
 -- The laws of measured trees: fewer of them, their items, the trees after the first, and what a group's record tells. Assumes nothing.
-use mathlib.Core.Bool.{Bool, true, false}
 use mathlib.Core.Path.{_≡_, refl, ap, _∙_}
 use mathlib.Core.List.{List, [], _∷_}
 use Prim.Native.Nat.{ℕ, zero, suc, _+_, _*_, _-_, _≤_, _<_}
 use native.Mathlib.Omega.{arith}
-use lib.Dec.{eqb}
 use lib.ListN.{length, drop, length-drop}
 use Rattle.particle.specs.declared.Record.{Record}
 use Rattle.particle.specs.Record.{recordSize, maxRecords, recordAt}
 use Rattle.particle.specs.Tree.{takeI, sizeI, build, records, decode, tree}
 use Rattle.particle.specs.Rows.{row, runSize, itemsPart, laterPart}
 use Rattle.particle.specs.Empty.{emptiable}
-use Rattle.particle.specs.Runs.{flag, Noted, Measured, Run, ItemsMeasured}
+use Rattle.particle.specs.Runs.{Told, Noted, Measured, Run, ItemsMeasured}
 use Rattle.particle.proofs.Records.{records-cons, records-drop, length-records}
 use Rattle.particle.proofs.Trees.{countI-le, sizeI-build}
 use Rattle.particle.proofs.Laws.{row-le, row-sizes, run-is, run-within, some-bytes, items-row, later-row}
@@ -55,17 +53,13 @@ module _ {n : ℕ} {t : List ℕ} (w : Run (suc n) t) where
   group-run g = ap (λ (k : ℕ). recordSize * k) (group-noted g .size)
 
   -- whether it is emptiable
-  group-empty : 2 ≤ recordAt t .kind → recordAt t .zero ≡ flag (emptiable (tree t))
+  group-empty : 2 ≤ recordAt t .kind → Told (recordAt t .zero) (emptiable (tree t))
   unfolding tree
   group-empty g = group-noted g .empty
 
-flag-read : {n : ℕ} (e : Bool) → n ≡ flag e → eqb n 1 ≡ e
-flag-read true q = rw q
-flag-read false q = rw q
-
 -- r is the first tree's record
-pub group-note : {t : List ℕ} {r : Record} → Run 1 t → r ≡ recordAt t → 2 ≤ r .kind → eqb (r .zero) 1 ≡ emptiable (tree t)
-group-note {t} {r} w e g = flag-read (emptiable (tree t)) (ap (λ (r : Record). r .zero) e ∙ group-empty w (rw e at g))
+pub group-told : {t : List ℕ} {r : Record} → Run 1 t → r ≡ recordAt t → 2 ≤ r .kind → Told (r .zero) (emptiable (tree t))
+group-told w e g = rw e (group-empty w (rw e at g))
 
 module _ {t : List ℕ} {r : Record} (w : ItemsMeasured t) (e : r ≡ recordAt t) where
   pub group-kind : 2 ≤ r .kind

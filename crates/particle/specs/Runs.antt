@@ -1,8 +1,8 @@
--- Measured trees: a group's record tells how many records its tree takes, and whether it is emptiable. Assumes nothing: these are definitions.
+-- Measured trees: a group's record tells how many records its tree takes, and may tell whether it is emptiable. Assumes nothing: these are definitions.
 use mathlib.Core.Bool.{Bool, true, false}
 use mathlib.Core.List.{List, [], _∷_}
 use mathlib.Core.Path.{_≡_}
-use Prim.Native.Nat.{ℕ, _*_, _≤_}
+use Prim.Native.Nat.{ℕ, zero, suc, _*_, _≤_}
 use lib.ListN.{length}
 use Rattle.particle.specs.declared.Record.{Record}
 use Rattle.particle.specs.Record.{recordSize, maxRecords, recordAt}
@@ -10,14 +10,21 @@ use Rattle.particle.specs.Tree.{Items, takeI, sizeI, build, records, fir
 use Rattle.particle.specs.Rows.{Row, itemsPart}
 use Rattle.particle.specs.Empty.{emptiable}
 
--- yes is noted as 1, no as 0
-abbrev pub flag : Bool → ℕ
-flag true = 1
-flag false = 0
+-- emptiable is noted as 1, not emptiable as 2
+abbrev pub noteOf : (empty : Bool) → ℕ
+noteOf true = 1
+noteOf false = 2
 
--- r has what is noted of the first tree of x: in its first zero byte whether the tree is emptiable, in the last two the number of its records
+-- what a note tells of a tree; any other number tells nothing
+abbrev pub Told : (note : ℕ) (empty : Bool) → Type 0
+Told zero empty = Unit {0}
+Told (suc zero) empty = empty ≡ true
+Told (suc (suc zero)) empty = empty ≡ false
+Told (suc (suc (suc n))) empty = Unit {0}
+
+-- r has what is noted of the first tree of x: in its first zero byte whether the tree is emptiable, or nothing, in the last two the number of its records
 pub record Noted (r : Record) (x : Items) : Type 0 where
-  pub empty : r .zero ≡ flag (emptiable (firstOf x))
+  pub empty : Told (r .zero) (emptiable (firstOf x))
   pub size : r .size ≡ sizeI (takeI 1 x)
 
 -- each group's record has what is noted of its tree

@@ -11,9 +11,11 @@ ghost use Rattle.particle.specs.Write.{overwrite};
 ghost use Rattle.particle.specs.Tree.{sequence, records};
 ghost use Rattle.particle.specs.Encode.{recordOf};
 ghost use Rattle.particle.specs.Rows.{Row, itemsPart, laterPart, runSize, itemStart, itemRun, ItemAt, PartOf};
-pub use measured::emptiable;
+pub use measured::EMPTIABLE;
+pub use measured::NOT_EMPTIABLE;
 pub use measured::measure;
 pub use measured::next;
+pub use measured::note;
 
 // The length of a record in bytes.
 pub const RECORD_SIZE: usize = 16;

@@ -7,7 +7,7 @@ ghost use Rattle.particle.specs.Record.{recordSize, maxRecords};
 ghost use Rattle.particle.specs.Tree.{sizeI, fold, tree};
 ghost use Rattle.particle.specs.Rows.{Row, row, laterPart};
 ghost use Rattle.particle.specs.Empty.{everyOrSome, emptiableFrom, emptiable};
-ghost use Rattle.particle.specs.Runs.{Run, ItemsMeasured};
+ghost use Rattle.particle.specs.Runs.{noteOf, Told, Run, ItemsMeasured};
 use crate::AT_KIND;
 use crate::AT_SIZE;
 use crate::AT_ZERO;
@@ -48,58 +48,83 @@ fn row_len(t: &[u8], n: usize) -> usize
     t.len() - rest.len()
 }
 
-// Whether the first tree of t is emptiable: a leaf by its minimum, a group by what is noted of it.
-pub fn emptiable(t: &[u8]) -> bool
+// The notes: that a tree is emptiable, and that it isn't.
+pub const EMPTIABLE: u8 = 1;
+
+pub const NOT_EMPTIABLE: u8 = 2;
+
+// What is noted where `empty` tells whether a tree is emptiable.
+fn noted(empty: bool) -> u8
+    ensures { λ r. ⌜ r ≡ noteOf empty ⌝ }
+{
+    if empty { EMPTIABLE } else { NOT_EMPTIABLE }
+}
+
+// What is known of the emptiness of the first tree of t without reading its items: a leaf's minimum tells it, a group's note may.
+pub fn note(t: &[u8]) -> u8
     requires { ⌜ Run 1 (now t) ⌝ }
-    ensures { λ r. ⌜ r ≡ emptiable (tree (now (t .entry))) ⌝ }
+    ensures { λ r. ⌜ Told r (emptiable (tree (now (t .entry)))) ⌝ }
 {
     let r = record_at(t);
     if r.kind < SEQUENCE {
-        return r.min == 0;
+        return noted(r.min == 0);
     }
-    r.zero == 1
+    r.zero
 }
 
-// Whether each of the first n trees of t is emptiable; without `each`, whether one of them is. The first that decides ends it.
-fn items_emptiable(t: &[u8], n: usize, each: bool) -> bool
+// What the notes tell of the first n trees of t: whether each is emptiable; without `each`, whether one of them is. The first that
+// decides ends it, and so does one of which nothing is known.
+fn items_note(t: &[u8], n: usize, each: bool) -> u8
     requires { ⌜ Run n (now t) ⌝ }
-    ensures { λ r. ⌜ r ≡ everyOrSome each (fold emptiableFrom (row n (now (t .entry)))) ⌝ }
+    ensures { λ r. ⌜ Told r (everyOrSome each (fold emptiableFrom (row n (now (t .entry))))) ⌝ }
 {
+    let sought = noted(each);
     let mut rest = t;
     let mut left = n;
     while 0 < left {
-        let found = emptiable(rest);
-        if found != each {
+        let found = note(rest);
+        if found != sought {
             return found;
         }
         let after = next(rest);
         rest = after;
         left -= 1;
     }
-    each
+    sought
 }
 
-// Whether the group that t starts with is emptiable; it is not measured itself.
-fn group_emptiable(t: &[u8]) -> bool
+// What is to be noted of the group that t starts with, which is not measured itself.
+fn group_note(t: &[u8]) -> u8
     requires { ⌜ ItemsMeasured (now t) ⌝ }
-    ensures { λ r. ⌜ r ≡ emptiable (tree (now (t .entry))) ⌝ }
+    ensures { λ r. ⌜ Told r (emptiable (tree (now (t .entry)))) ⌝ }
 {
     let r = record_at(t);
     if r.min == 0 {
-        return true;
+        return EMPTIABLE;
     }
     let n = r.count as usize;
     if r.kind == CHOICE {
         if r.count == 0 {
-            return true;
+            return EMPTIABLE;
         }
-        return items_emptiable(items(t), n, false);
+        return items_note(items(t), n, false);
     }
-    items_emptiable(items(t), n, true)
+    items_note(items(t), n, true)
 }
 
-// Measures the tree of t: from the last record to the first, so that a group's items are measured before it.
-pub fn measure(t: &mut [u8])
+// The same where it is to be noted; else 0, which tells nothing.
+fn note_if(noting: bool, t: &[u8]) -> u8
+    requires { ⌜ ItemsMeasured (now t) ⌝ }
+    ensures { λ r. ⌜ Told r (emptiable (tree (now (t .entry)))) ⌝ }
+{
+    if noting {
+        return group_note(t);
+    }
+    0
+}
+
+// Measures the tree of t: from the last record to the first, so that a group's items are measured before it. With `noting`, emptiness is noted too.
+pub fn measure(t: &mut [u8], noting: bool)
     requires { ⌜ Row 1 (now t) ⌝ }
     requires { ⌜ length (now t) ≤ recordSize * maxRecords ⌝ }
     ensures { λ _. ⌜ Run 1 (now (t .exit)) × (tree (now (t .exit)) ≡ tree (now (t .entry))) ⌝ }
@@ -110,8 +135,8 @@ pub fn measure(t: &mut [u8])
         if t[at + AT_KIND] >= SEQUENCE {
             let count = count_at(t, at);
             let n = row_len(&t[at + RECORD_SIZE..], count);
-            let empty = group_emptiable(&t[at..]);
-            t[at + AT_ZERO] = empty as u8;
+            let note = note_if(noting, &t[at..]);
+            t[at + AT_ZERO] = note;
             write_u16(t, at + AT_SIZE, (n / RECORD_SIZE + 1) as u16);
         }
     }

@@ -6,10 +6,10 @@ use Rattle.particle.proofs.measured.measure.Statement.{statement}
 use Rattle.particle.proofs.measured.measure.Tie as tie
 
 abbrev Inv-loop : tie.InvT-loop
-Inv-loop t₀ at₀ t at = MeasuredFrom t₀ t at
+Inv-loop t₀ noting at₀ t at = MeasuredFrom t₀ t at
 
 abbrev μ-loop : tie.MeasureT-loop
-μ-loop t₀ at₀ t at = at
+μ-loop t₀ noting at₀ t at = at
 
 -- The places that the answers speak of: the loop's test, a group's items are counted, they are walked over, and whether the group is emptiable is asked.
 abbrev Loop : Type 0
@@ -22,7 +22,7 @@ abbrev Walked : Type 0
 Walked = tie.After-row-len Inv-loop μ-loop
 
 abbrev Asked : Type 0
-Asked = tie.After-group-emptiable Inv-loop μ-loop
+Asked = tie.After-note-if Inv-loop μ-loop
 
 abbrev walked : Asked → Walked
 walked c = c .before .before .before
@@ -57,11 +57,10 @@ measure-spec =
     (λ c. omega arith)
     (λ c. omega arith)
     (λ c. omega arith)
-    (λ c. omega arith)
     (λ c. let w = walked (c .before) in omega (arith, size-fits (loop (counted w) .loop .inv) (search) (search) (counted w .count-at .ensures) (w .row-len .ensures)))
     (λ c κs. simp length-set (omega arith))
     (λ c. omega arith)
-    (λ c. let asked = c .before .before .before .before in let w = walked asked in group-measured (loop (counted w) .loop .inv) (search) (search) (counted w .count-at .ensures) (w .row-len .ensures) (asked .group-emptiable .ensures) (c .before .before .write-u16 .ensures))
+    (λ c. let asked = c .before .before .before .before in let w = walked asked in group-measured (loop (counted w) .loop .inv) (search) (search) (counted w .count-at .ensures) (w .row-len .ensures) (asked .note-if .result) (asked .note-if .ensures) (c .before .before .write-u16 .ensures))
     (λ c. omega arith)
     (λ c. leaf-measured (c .before .before .before .loop .inv) (search) (search))
     (λ c. omega arith)
