@@ -37,7 +37,7 @@ pub fn total_range(t: &[u8]) -> TotalAnswer
 {
     match intake::check_alone(t) {
         Checked::Refused(f) => TotalAnswer::Refused(Refusal::Derived(f)),
-        Checked::Accepted => TotalAnswer::Total(totals::effective_total_range(t)),
+        Checked::Accepted => TotalAnswer::Total(totals::effective_total_range(t, false)),
     }
 }
 

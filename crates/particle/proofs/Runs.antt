@@ -1,4 +1,5 @@
 -- The laws of measured trees: fewer of them, their items, the trees after the first, and what a group's record tells. Assumes nothing.
+use mathlib.Core.Bool.{Bool, true, false, false≢true}
 use mathlib.Core.Path.{_≡_, refl, ap, _∙_}
 use mathlib.Core.List.{List, [], _∷_}
 use Prim.Native.Nat.{ℕ, zero, suc, _+_, _*_, _-_, _≤_, _<_}
@@ -9,7 +10,7 @@ use Rattle.particle.specs.Record.{recordSize, maxRecords, recordAt}
 use Rattle.particle.specs.Tree.{takeI, sizeI, build, records, decode, tree}
 use Rattle.particle.specs.Rows.{row, runSize, itemsPart, laterPart}
 use Rattle.particle.specs.Empty.{emptiable}
-use Rattle.particle.specs.Runs.{Told, Noted, Measured, Run, ItemsMeasured}
+use Rattle.particle.specs.Runs.{Told, Noted, Measured, Run, RunIf, ItemsMeasured}
 use Rattle.particle.proofs.Records.{records-cons, records-drop, length-records}
 use Rattle.particle.proofs.Trees.{countI-le, sizeI-build}
 use Rattle.particle.proofs.Laws.{row-le, row-sizes, run-is, run-within, some-bytes, items-row, later-row}
@@ -61,6 +62,7 @@ module _ {n : ℕ} {t : List ℕ} (w : Run (suc n) t) where
 pub group-told : {t : List ℕ} {r : Record} → Run 1 t → r ≡ recordAt t → 2 ≤ r .kind → Told (r .zero) (emptiable (tree t))
 group-told w e g = rw e (group-empty w (rw e at g))
 
+-- the same of a group whose items are measured; s are the items
 module _ {t : List ℕ} {r : Record} (w : ItemsMeasured t) (e : r ≡ recordAt t) where
   pub group-kind : 2 ≤ r .kind
   group-kind = rw e (w .group)
@@ -77,6 +79,28 @@ module _ {m n : ℕ} {t : List ℕ} (w : Run n t) (some : m < n) where
   rest-run e =
       let from : Run (suc (n - 1)) t = run-le (omega arith) w in
       rw e (later-run from)
+
+-- the same where trees are said to be measured
+module _ {k : Bool} where
+  pub if-run : {n : ℕ} {t : List ℕ} → RunIf k n t → k ≡ true → Run n t
+  if-run w = w .run
+
+  pub items-if : {t : List ℕ} → RunIf k 1 t → {r : Record} → r ≡ recordAt t → {s : List ℕ} → s ≡ itemsPart t → RunIf k (r .count) s
+  items-if w q p = record { run = λ e. rw (q, p) (items-run (w .run e)) }
+
+module _ {m : ℕ} {k : Bool} {n : ℕ} {t : List ℕ} (w : RunIf k n t) (some : m < n) where
+  pub first-if : RunIf k 1 t
+  first-if = record { run = λ e. first-run (w .run e) some }
+
+  pub rest-if : {s : List ℕ} → s ≡ laterPart t → RunIf k (n - 1) s
+  rest-if p = record { run = λ e. rest-run (w .run e) some p }
+
+-- they are, or nothing says so
+pub run-if : {n : ℕ} {t : List ℕ} → Run n t → RunIf true n t
+run-if w = record { run = λ _. w }
+
+pub none-if : {n : ℕ} {t : List ℕ} → RunIf false n t
+none-if = record { run = λ e. absurd (false≢true e) }
 
 -- Walking over n trees of t: of the bytes that they take, those of the trees in `rest` are left.
 pub record RowLeft (n : ℕ) (t rest : List ℕ) (left : ℕ) : Type 0 where

@@ -38,6 +38,10 @@ pub record Run (n : ℕ) (t : List ℕ) : Type 0 where
   pub measured : Measured (records t)
   pub few : length t ≤ recordSize * maxRecords
 
+-- where the trees of t are said to be measured, they are, n or more
+pub record RunIf (measured : Bool) (n : ℕ) (t : List ℕ) : Type 0 where
+  pub run : measured ≡ true → Run n t
+
 -- t starts with a group, whose items are measured
 pub record ItemsMeasured (t : List ℕ) : Type 0 where
   pub whole : Row 1 t

@@ -13,6 +13,7 @@ ghost use Rattle.particle.specs.Encode.{recordOf};
 ghost use Rattle.particle.specs.Rows.{Row, itemsPart, laterPart, runSize, itemStart, itemRun, ItemAt, PartOf};
 pub use measured::EMPTIABLE;
 pub use measured::NOT_EMPTIABLE;
+pub use measured::after;
 pub use measured::measure;
 pub use measured::next;
 pub use measured::note;

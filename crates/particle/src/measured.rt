@@ -7,7 +7,7 @@ ghost use Rattle.particle.specs.Record.{recordSize, maxRecords};
 ghost use Rattle.particle.specs.Tree.{sizeI, fold, tree};
 ghost use Rattle.particle.specs.Rows.{Row, row, laterPart};
 ghost use Rattle.particle.specs.Empty.{everyOrSome, emptiableFrom, emptiable};
-ghost use Rattle.particle.specs.Runs.{noteOf, Told, Run, ItemsMeasured};
+ghost use Rattle.particle.specs.Runs.{noteOf, Told, Run, RunIf, ItemsMeasured};
 use crate::AT_KIND;
 use crate::AT_SIZE;
 use crate::AT_ZERO;
@@ -33,6 +33,18 @@ pub fn next(t: &[u8]) -> &[u8]
     &t[n..]
 }
 
+// The same of a tree that is measured or not.
+pub fn after(t: &[u8], measured: bool) -> &[u8]
+    requires { ⌜ Row 1 (now t) ⌝ }
+    requires { ⌜ RunIf measured 1 (now t) ⌝ }
+    ensures { λ r. ⌜ now r ≡ laterPart (now (t .entry)) ⌝ }
+{
+    if measured {
+        return next(t);
+    }
+    later(t)
+}
+
 // How many bytes the first n trees of t take.
 fn row_len(t: &[u8], n: usize) -> usize
     requires { ⌜ Run n (now t) ⌝ }
@@ -41,8 +53,8 @@ fn row_len(t: &[u8], n: usize) -> usize
     let mut rest = t;
     let mut left = n;
     while 0 < left {
-        let after = next(rest);
-        rest = after;
+        let following = next(rest);
+        rest = following;
         left -= 1;
     }
     t.len() - rest.len()
@@ -86,8 +98,8 @@ fn items_note(t: &[u8], n: usize, each: bool) -> u8
         if found != sought {
             return found;
         }
-        let after = next(rest);
-        rest = after;
+        let following = next(rest);
+        rest = following;
         left -= 1;
     }
     sought

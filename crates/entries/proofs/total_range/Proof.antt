@@ -1,5 +1,6 @@
 -- `entries::total_range` meets its contract. Assumes nothing.
 use borrow.Author.Needs.{needs}
+use Rattle.particle.proofs.Runs.{none-if}
 use Rattle.entries.proofs.Alone.{turned-away, taken, whole}
 use Rattle.entries.proofs.total_range.Statement.{statement}
 use Rattle.entries.proofs.total_range.Tie as tie
@@ -11,6 +12,6 @@ total-range-spec =
     (λ c κs. search needs)
     (λ c. search needs)
     (λ c. search needs)
-    (λ c κs. search whole)
+    (λ c κs. (search whole, search none-if))
     (λ c. search turned-away)
     (λ c. search taken))

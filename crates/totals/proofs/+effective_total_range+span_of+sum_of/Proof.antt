@@ -1,14 +1,17 @@
 -- `totals::effective_total_range`, `sum_of` and `span_of` meet their contracts. A call goes to a shorter part, or from a row to one of its trees. Assumes nothing.
 use Prim.Native.Nat.{ℕ, _<_}
+use native.Mathlib.Nat.{pos-of-ne-zero}
 use native.Mathlib.Omega.{arith}
 use borrow.Author.Needs.{needs}
 use borrow.Fn.Kinds.{In}
 use borrow.Fn.PlainCycle.{Measures, is, falls, and}
+use Rattle.particle.specs.Runs.{RunIf}
+use Rattle.particle.proofs.after.Reads as after-reads
 use Rattle.particle.proofs.items.Reads as items-reads
-use Rattle.particle.proofs.later.Reads as later-reads
 use Rattle.particle.proofs.range.Reads as range-reads
 use Rattle.particle.proofs.record_at.Reads as record-at-reads
 use Rattle.particle.proofs.Laws.{some-bytes}
+use Rattle.particle.proofs.Runs.{first-if, rest-if, items-if}
 use Rattle.totals.specs.Exact.{sum, span}
 use Rattle.totals.proofs.ranges.add_range.Reads as add-range-reads
 use Rattle.totals.proofs.ranges.mul_range.Reads as mul-range-reads
@@ -82,8 +85,8 @@ module _ (t : ℕ) where
     zero-reads.Learnt,
     total-below,
     effective-total-range.Post,
-    later-reads.Asked,
-    later-reads.Learnt,
+    after-reads.Asked,
+    after-reads.Learnt,
     record-at-reads.Asked,
     record-at-reads.Learnt,
     range-reads.Asked,
@@ -98,8 +101,8 @@ module _ (t : ℕ) where
   sum-calls = (
     zero-reads.Asked,
     zero-reads.Learnt,
-    later-reads.Asked,
-    later-reads.Learnt,
+    after-reads.Asked,
+    after-reads.Learnt,
     record-at-reads.Asked,
     record-at-reads.Learnt,
     range-reads.Asked,
@@ -113,16 +116,16 @@ module _ (t : ℕ) where
   )
 
 abbrev Inv-span : span-of-lts.InvT-loop
-Inv-span t n span₀ items₀ left₀ r items left = Gathered span n t r items left
+Inv-span t n measured span₀ items₀ left₀ r items left = Gathered span n t r items left × RunIf measured left items
 
 abbrev μ-span : span-of-lts.MeasureT-loop
-μ-span t n span₀ items₀ left₀ r items left = left
+μ-span t n measured span₀ items₀ left₀ r items left = left
 
 abbrev Inv-sum : sum-of-lts.InvT-loop
-Inv-sum t n sum₀ items₀ left₀ r items left = Gathered sum n t r items left
+Inv-sum t n measured sum₀ items₀ left₀ r items left = Gathered sum n t r items left × RunIf measured left items
 
 abbrev μ-sum : sum-of-lts.MeasureT-loop
-μ-sum t n sum₀ items₀ left₀ r items left = left
+μ-sum t n measured sum₀ items₀ left₀ r items left = left
 
 pub +effective-total-range+span-of+sum-of-spec : {M : Type 1} → statement M
 +effective-total-range+span-of+sum-of-spec =
@@ -134,11 +137,11 @@ pub +effective-total-range+span-of+sum-of-spec : {M : Type 1} → statement M
     (λ c. search leaf-total)
     (λ c. search needs)
     (λ c κs. search needs)
-    (λ c κs. (search items-fall, search items-trees))
+    (λ c κs. (search items-fall, (search items-trees, search items-if)))
     (λ c κs. search needs)
     (λ c. search ordered-total)
     (λ c κs. search needs)
-    (λ c κs. (search items-fall, search items-trees))
+    (λ c κs. (search items-fall, (search items-trees, search items-if)))
     (λ c κs. search needs)
     (λ c. search choice-total))
     (λ t. span-of-lts.spec (span-calls t) (span-at t) span-of.Post
@@ -146,38 +149,38 @@ pub +effective-total-range+span-of+sum-of-spec : {M : Type 1} → statement M
     μ-span
     (λ c κs. search needs)
     (λ c. search span-none)
-    (λ c κs. (omega arith, search first-row))
-    (λ c κs. search first-row)
+    (λ c κs. (omega arith, (search first-row, search (first-if {m = 0}, pos-of-ne-zero))))
+    (λ c κs. (search first-row, search (first-if {m = 0}, pos-of-ne-zero)))
     (λ c. omega arith)
-    (λ c. search span-start)
-    (λ c κs. search part-first)
+    (λ c. search (span-start, rest-if {m = 0}, pos-of-ne-zero))
+    (λ c κs. (search part-first, search first-if))
     (λ c. omega arith)
     (λ c κs. search (some-bytes {n = 0}, part-first))
     (λ c κs. search needs)
     (λ c κs. search needs)
     (λ c κs. search needs)
     (λ c. omega arith)
-    (λ c. search (gathered-next spans, leaf-item))
-    (λ c κs. (search part-falls, search part-first))
+    (λ c. search (gathered-next spans, leaf-item, rest-if))
+    (λ c κs. (search part-falls, (search part-first, search first-if)))
     (λ c κs. search needs)
     (λ c. omega arith)
-    (λ c. search (gathered-next spans))
+    (λ c. search (gathered-next spans, rest-if))
     (λ c. search (gathered-end spans)))
     λ t. sum-of-lts.spec (sum-calls t) (sum-at t) sum-of.Post
     Inv-sum
     μ-sum
     (λ c κs. search needs)
     (λ c. search sum-start)
-    (λ c κs. search part-first)
+    (λ c κs. (search part-first, search first-if))
     (λ c. omega arith)
     (λ c κs. search (some-bytes {n = 0}, part-first))
     (λ c κs. search needs)
     (λ c κs. search needs)
     (λ c κs. search needs)
     (λ c. omega arith)
-    (λ c. search (gathered-next sums, leaf-item))
-    (λ c κs. (search part-falls, search part-first))
+    (λ c. search (gathered-next sums, leaf-item, rest-if))
+    (λ c κs. (search part-falls, (search part-first, search first-if)))
     (λ c κs. search needs)
     (λ c. omega arith)
-    (λ c. search (gathered-next sums))
+    (λ c. search (gathered-next sums, rest-if))
     (λ c. search (gathered-end sums))
