@@ -95,10 +95,7 @@ module _ {m : ℕ} {k : Bool} {n : ℕ} {t : List ℕ} (w : RunIf k n t) (some :
   pub rest-if : {s : List ℕ} → s ≡ laterPart t → RunIf k (n - 1) s
   rest-if p = record { run = λ e. rest-run (w .run e) some p }
 
--- they are, or nothing says so
-pub run-if : {n : ℕ} {t : List ℕ} → Run n t → RunIf true n t
-run-if w = record { run = λ _. w }
-
+-- nothing says so
 pub none-if : {n : ℕ} {t : List ℕ} → RunIf false n t
 none-if = record { run = λ e. absurd (false≢true e) }
 

@@ -434,7 +434,7 @@ fn group_wildcard(
     requires { ⌜ Run 1 (now b) ⌝ }
     ensures { λ r. ⌜ markOf r ≡ totalOk (total (tree (now (group .entry)))) q orFails 113 andThen eachMember (λ x. judge (now (leaves .entry)) (now (tables .entry)) n x (asAny true (tree (now (b .entry))))) (row dn (now (ds .entry))) ⌝ }
 {
-    if !totals::total_ok(totals::effective_total_range(group, true), q) {
+    if !totals::total_within(group, q) {
         return Verdict::Violation(Reason::TotalRange);
     }
     let mut seen = false;

@@ -48,6 +48,14 @@ max-same occurs.Unbounded occurs.Unbounded h = refl
 pub ok-is-exact : (e q : Occurs) → Pair32 q → totalOk (cut e) q ≡ rangeOk e q
 ok-is-exact e q (l, m) = ap₂ _&&_ (min-same (e .min) (q .min) l) (max-same (e .max) (q .max) m)
 
+-- every total range is within (0, unbounded)
+pub any-number : (t : TotalRange) (q : Occurs) → q .min ≡ 0 → q .max ≡ occurs.Unbounded → true ≡ totalOk t q
+any-number t q z u = rw (z, u) (low (t .min))
+  where
+    low : (m : TotalMin) → true ≡ (totalMinOk m 0 && true)
+    low (least.Exact n) = rw (le-leb 0 n (omega arith))
+    low least.TooLarge = refl
+
 -- the test answers what it answered of the range with the caps
 pub ok-with-caps : (t : TotalRange) (q : Occurs) → totalOk t q ≡ rangeOk (withCaps t) q
 ok-with-caps t q = ap₂ _&&_ (low (t .min)) (high (t .max) (q .max))

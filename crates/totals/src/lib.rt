@@ -5,9 +5,11 @@ ghost use mathlib.Core.Path.{_≡_};
 ghost use Rattle.particle.specs.Tree.{tree, fold};
 ghost use Rattle.particle.specs.Rows.{Row, row};
 ghost use Rattle.particle.specs.Empty.{everyOrSome, emptiableFrom, emptiable};
-ghost use Rattle.particle.specs.Runs.{RunIf};
+ghost use Rattle.particle.specs.Runs.{Run, RunIf};
 ghost use Rattle.totals.specs.Exact.{sum, span, exactFrom};
-ghost use Rattle.totals.specs.Total.{cut, total};
+ghost use Rattle.totals.specs.Total.{cut, total, totalOk};
+use particle::MaxOccurs;
+use particle::Occurs;
 pub use ranges::TotalMax;
 pub use ranges::TotalMin;
 pub use ranges::TotalRange;
@@ -74,6 +76,20 @@ pub fn effective_total_range(t: &[u8], measured: bool) -> TotalRange
         return ranges::mul_range(own, sum_of(particle::items(t), n, measured));
     }
     ranges::mul_range(own, span_of(particle::items(t), n, measured))
+}
+
+// Whether the total range of the first tree of t, which is measured, is within q. Every total range is within (0, unbounded), so there it isn't asked.
+pub fn total_within(t: &[u8], q: Occurs) -> bool
+    requires { ⌜ Run 1 (now t) ⌝ }
+    ensures { λ r. ⌜ r ≡ totalOk (total (tree (now (t .entry)))) q ⌝ }
+{
+    if q.min == 0 {
+        let qmax = q.max;
+        if let MaxOccurs::Unbounded = qmax {
+            return true;
+        }
+    }
+    ranges::total_ok(effective_total_range(t, true), q)
 }
 
 // All and sequence: the sum of the total ranges of the first n trees of t. An element or wildcard counts by its own pair; only a group is asked by a

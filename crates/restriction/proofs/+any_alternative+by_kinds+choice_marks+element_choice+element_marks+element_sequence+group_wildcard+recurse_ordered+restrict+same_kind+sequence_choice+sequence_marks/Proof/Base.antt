@@ -23,8 +23,8 @@ use Rattle.restriction.proofs.pairs.kind_of.Reads as kind-of-reads
 use Rattle.restriction.proofs.pairs.times_count.Reads as times-count-reads
 use Rattle.restriction.proofs.rows.group_all.Reads as group-all-reads
 use Rattle.restriction.proofs.rows.left_over.Reads as left-over-reads
-use Rattle.totals.proofs.effective_total_range.Reads as effective-total-range-reads
 use Rattle.totals.proofs.total_ok.Reads as total-ok-reads
+use Rattle.totals.proofs.total_within.Reads as total-within-reads
 use Rattle.verdicts.proofs.combine_readings.Reads as combine-readings-reads
 use Rattle.verdicts.proofs.definite.Reads as definite-reads
 use Rattle.verdicts.proofs.element_restrict.Reads as element-restrict-reads
@@ -200,7 +200,7 @@ module _ (t : ℕ) where
   choice-marks-calls = (base-once-reads.Asked, base-once-reads.Learnt, same-kind-below, same-kind.Post, base-fails-reads.Asked, base-fails-reads.Learnt, range-ok-reads.Asked, range-ok-reads.Learnt, next-reads.Asked, next-reads.Learnt, element-marks-below, element-marks.Post, walk-on-reads.Asked, walk-on-reads.Learnt, combine-readings-reads.Asked, combine-readings-reads.Learnt, read-reads.Asked, read-reads.Learnt)
 
   abbrev pub group-wildcard-calls : group-wildcard-lts.Claims
-  group-wildcard-calls = (effective-total-range-reads.Asked, effective-total-range-reads.Learnt, total-ok-reads.Asked, total-ok-reads.Learnt, next-reads.Asked, next-reads.Learnt, by-kinds-below, by-kinds.Post, definite-reads.Asked, definite-reads.Learnt)
+  group-wildcard-calls = (total-within-reads.Asked, total-within-reads.Learnt, next-reads.Asked, next-reads.Learnt, by-kinds-below, by-kinds.Post, definite-reads.Asked, definite-reads.Learnt)
 
   abbrev pub recurse-ordered-calls : recurse-ordered-lts.Claims
   recurse-ordered-calls = (next-reads.Asked, next-reads.Learnt, restrict-below, restrict.Post, emptiable-reads.Asked, emptiable-reads.Learnt, definite-reads.Asked, definite-reads.Learnt, left-over-reads.Asked, left-over-reads.Learnt)

@@ -5,7 +5,6 @@ use native.Mathlib.Omega.{arith}
 use mathlib.Core.Bool.{true}
 use borrow.Author.Tests.{not-true, not-false}
 use Rattle.particle.specs.Tree.{tree}
-use Rattle.particle.proofs.Runs.{run-if}
 use Rattle.totals.specs.Total.{totalOk}
 use Rattle.restriction.specs.Views.{asAny, judge}
 use Rattle.restriction.proofs.Parts.{first-tree}
@@ -26,7 +25,6 @@ group-wildcard-closed t =
     lts.spec (group-wildcard-calls t) (group-wildcard-at t) reads.Post
     Inv-loop
     μ-loop
-    (λ c κs. (search needs, search run-if))
     (λ c κs. search needs)
     (λ c. search (check-fails totalOk, not-true))
     (λ c. search members-start)
