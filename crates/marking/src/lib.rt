@@ -45,7 +45,7 @@ fn never(t: &[u8]) -> bool
 // The early pass: the derived root has maximum 0, and the base root has maximum 0 or is emptiable.
 fn early_pass(d: &[u8], b: &[u8]) -> bool
     requires { ⌜ Row 1 (now d) ⌝ }
-    requires { ⌜ Run 1 (now b) ⌝ }
+    requires { ⌜ Row 1 (now b) ⌝ }
     ensures { λ r. ⌜ r ≡ earlyPass (tree (now (d .entry))) (tree (now (b .entry))) ⌝ }
 {
     if !never(d) {
@@ -54,7 +54,7 @@ fn early_pass(d: &[u8], b: &[u8]) -> bool
     if never(b) {
         return true;
     }
-    particle::emptiable(b)
+    totals::emptiable(b)
 }
 
 // The mark of two tidied trees, by the leaves and the tables of a sheet with n leaves.
@@ -69,15 +69,15 @@ fn mark_tidied(d: &[u8], b: &[u8], leaves: &[u8], tables: &[u8], n: u8) -> Verdi
     restriction::restrict(d, false, b, false, leaves, tables, n)
 }
 
-// The tree of t, tidied and measured, at the start of out: answers how many bytes it takes.
-fn prepare(t: &[u8], out: &mut [u8]) -> usize
+// The tree of t, tidied and measured, at the start of out: answers how many bytes it takes. Emptiness is asked of a base tree only, so it alone has the notes.
+fn prepare(t: &[u8], out: &mut [u8], noting: bool) -> usize
     requires { ⌜ Row 1 (now t) ⌝ }
     requires { ⌜ Faithful (records (now t)) ⌝ }
     requires { ⌜ Buffer (now t) (now out) ⌝ }
     ensures { λ r. ⌜ Prepared (now (t .entry)) (now (out .exit)) r ⌝ }
 {
     let n = tidying::normalize_in(t, out);
-    particle::measure(&mut out[..n]);
+    particle::measure(&mut out[..n], noting);
     n
 }
 
@@ -88,8 +88,8 @@ fn mark_in(s: &[u8], derived: &mut [u8], base: &mut [u8]) -> Verdict
     requires { ⌜ Buffer (basePart (now s)) (now base) ⌝ }
     ensures { λ r. ⌜ markOf r ≡ markOfSheet (now (s .entry)) ⌝ }
 {
-    let d = prepare(sheet::derived(s), derived);
-    let b = prepare(sheet::base(s), base);
+    let d = prepare(sheet::derived(s), derived, false);
+    let b = prepare(sheet::base(s), base, true);
     mark_tidied(
         &derived[..d],
         &base[..b],

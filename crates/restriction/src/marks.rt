@@ -14,6 +14,7 @@ ghost use Rattle.verdicts.specs.Reasons.{reasonNumber, markOf};
 ghost use Rattle.verdicts.specs.Paper.{tablesOf};
 ghost use Rattle.restriction.specs.Marks.{BothMarks, standing, walkedOn, cameTo, settledAt};
 use crate::pairs::exactly_one;
+use crate::rows;
 use crate::rows::left_over;
 use particle::Occurs;
 use verdicts::Reason;
@@ -93,7 +94,7 @@ pub fn walk_on(
             if lax {
                 return Standing::On;
             }
-            if particle::emptiable(b) {
+            if rows::emptiable(b) {
                 return Standing::On;
             }
             Standing::Ended(Verdict::Violation(r))
