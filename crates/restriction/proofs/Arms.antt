@@ -19,11 +19,13 @@ use Rattle.particle.proofs.Runs.{items-run}
 use Rattle.totals.specs.Total.{total, totalOk}
 use Rattle.rules.specs.Verdicts.{Mark, fails, Leaves, Tables}
 use Rattle.rules.specs.Combine.{_orFails_, _andThen_}
-use Rattle.rules.specs.Element.{elementRestrict}
 use Rattle.rules.specs.Walk.{_⟦_⟧, Judge, recurseOrdered, alternatives, eachMember}
 use Rattle.rules.specs.Rule.{anyNumber, timesCount, rule}
 use Rattle.rules.proofs.Unfolds.{mark-unfolds}
+use Rattle.verdicts.specs.declared.Verdict.{Verdict}
 use Rattle.verdicts.specs.Paper.{leavesOf, tablesOf}
+use Rattle.verdicts.specs.Reasons.{markOf}
+use Rattle.verdicts.proofs.Marks.{NotOk, ended}
 use Rattle.restriction.specs.Views.{onceHead, asOnce, eachOnce, anyHead, asAny, judge}
 use Rattle.restriction.specs.Marks.{sequenceMark, choiceMark}
 use Rattle.restriction.proofs.Heads.{head-again, once-same, any-same, once-again, any-again, once-never}
@@ -206,14 +208,14 @@ module _ {leaves tables : List ℕ} {n : ℕ} {once any : Bool} {d b : List ℕ}
   unfolding rule
   sequence-choice-arm key = arm 2 3 (omega arith) key ∙ rw (row-count (side-items (S .derived)))
 
--- two elements, told by their records alone
-pub elements-mark : (leaves tables : List ℕ) (n : ℕ) (once any : Bool) {d b : List ℕ} {dr br : Record} {p q : Occurs} → Run 1 d → Run 1 b → dr ≡ recordAt d → br ≡ recordAt b → dr .kind ≡ 0 → br .kind ≡ 0
-    → p ≡ pairOf (onceHead once (headOf dr)) → q ≡ pairOf (anyHead any (headOf br)) → {m : Mark} → m ≡ elementRestrict (tablesOf n tables) (dr .leaf) p (br .leaf) q → m ≡ judge leaves tables n (asOnce once (tree d)) (asAny any (tree b))
+-- two elements that the first table keeps apart, told by their records alone
+pub elements-apart : (leaves tables : List ℕ) (n : ℕ) (once any : Bool) {d b : List ℕ} {dr br : Record} → Run 1 d → Run 1 b → dr ≡ recordAt d → br ≡ recordAt b → dr .kind ≡ 0 → br .kind ≡ 0
+    → (v : Verdict) → markOf v ≡ tablesOf n tables .first (dr .leaf) (br .leaf) → NotOk v → markOf v ≡ judge leaves tables n (asOnce once (tree d)) (asAny any (tree b))
 unfolding rule
-elements-mark leaves tables n once any {d} {b} {dr} {br} {p} {q} dw bw de be dk bk dp bq a =
-    let s : Sides leaves tables n once any d b dr br p q (itemsPart d) (itemsPart b) 0 0 (weight 0 d b) = record {
-      derived = record { whole = dw; first = de; pair = dp; below = refl; kind = rw dk; small = omega arith };
-      base = record { whole = bw; first = be; pair = bq; below = refl; kind = rw bk; small = omega arith };
+elements-apart leaves tables n once any {d} {b} {dr} {br} dw bw de be dk bk v e apart =
+    let s : Sides leaves tables n once any d b dr br (pairOf (onceHead once (headOf dr))) (pairOf (anyHead any (headOf br))) (itemsPart d) (itemsPart b) 0 0 (weight 0 d b) = record {
+      derived = record { whole = dw; first = de; pair = refl; below = refl; kind = rw dk; small = omega arith };
+      base = record { whole = bw; first = be; pair = refl; below = refl; kind = rw bk; small = omega arith };
       weighs = refl;
     } in
-    a ∙ sym (arm s 0 0 (omega arith) (omega arith))
+    ended _ v e apart ∙ sym (arm s 0 0 (omega arith) (omega arith))

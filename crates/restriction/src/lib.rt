@@ -36,7 +36,7 @@ use verdicts::Reason;
 use verdicts::Verdict;
 
 // The first tree of d against the first of b. With once, an element of d counts with the pair (1,1); with any, a wildcard of b with (0, unbounded).
-// Two elements, which are asked for most often, take no further call.
+// Two elements that the first table keeps apart take no further call.
 pub fn restrict(
     d: &[u8],
     once: bool,
@@ -54,9 +54,10 @@ pub fn restrict(
     let br = particle::record_at(b);
     if dr.kind == particle::ELEMENT {
         if br.kind == particle::ELEMENT {
-            let p = derived_range(dr, once);
-            let q = base_range(br, any);
-            return verdicts::element_restrict(dr.leaf, p, br.leaf, q, tables, n);
+            let v = verdicts::first(dr.leaf, br.leaf, tables, n);
+            let Verdict::Ok = v else {
+                return v;
+            };
         }
     }
     by_kinds(d, once, b, any, leaves, tables, n)

@@ -24,7 +24,7 @@ pub fn emptiable(b: &[u8]) -> bool
     match particle::note(b) {
         particle::EMPTIABLE => true,
         particle::NOT_EMPTIABLE => false,
-        _ => totals::emptiable(b),
+        _ => totals::emptiable(b, true),
     }
 }
 

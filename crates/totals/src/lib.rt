@@ -17,9 +17,10 @@ pub use ranges::product_max;
 pub use ranges::product_min;
 pub use ranges::total_ok;
 
-// Whether the first tree of t is emptiable.
-pub fn emptiable(t: &[u8]) -> bool
+// Whether the first tree of t is emptiable. Where t is measured, each record is read once.
+pub fn emptiable(t: &[u8], measured: bool) -> bool
     requires { ⌜ Row 1 (now t) ⌝ }
+    requires { ⌜ RunIf measured 1 (now t) ⌝ }
     ensures { λ r. ⌜ r ≡ emptiable (tree (now (t .entry))) ⌝ }
 {
     let r = particle::record_at(t);
@@ -34,24 +35,25 @@ pub fn emptiable(t: &[u8]) -> bool
         if r.count == 0 {
             return true;
         }
-        return items_emptiable(particle::items(t), n, false);
+        return items_emptiable(particle::items(t), n, false, measured);
     }
-    items_emptiable(particle::items(t), n, true)
+    items_emptiable(particle::items(t), n, true, measured)
 }
 
 // Whether each of the first n trees of t is emptiable; without `each`, whether one of them is.
-fn items_emptiable(t: &[u8], n: usize, each: bool) -> bool
+fn items_emptiable(t: &[u8], n: usize, each: bool, measured: bool) -> bool
     requires { ⌜ Row n (now t) ⌝ }
+    requires { ⌜ RunIf measured n (now t) ⌝ }
     ensures { λ r. ⌜ r ≡ everyOrSome each (fold emptiableFrom (row n (now (t .entry)))) ⌝ }
 {
     let mut items = t;
     let mut left = n;
     while 0 < left {
-        let found = emptiable(items);
+        let found = emptiable(items, measured);
         if found != each {
             return found;
         }
-        let next = particle::later(items);
+        let next = particle::after(items, measured);
         items = next;
         left -= 1;
     }

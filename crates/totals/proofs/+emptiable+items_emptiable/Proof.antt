@@ -5,10 +5,12 @@ use borrow.Author.Needs.{needs}
 use borrow.Author.Tests.{not-true, not-false}
 use borrow.Fn.Kinds.{In}
 use borrow.Fn.PlainCycle.{Measures, is, falls, and}
+use Rattle.particle.proofs.after.Reads as after-reads
 use Rattle.particle.proofs.items.Reads as items-reads
-use Rattle.particle.proofs.later.Reads as later-reads
 use Rattle.particle.proofs.record_at.Reads as record-at-reads
+use Rattle.particle.specs.Runs.{RunIf}
 use Rattle.particle.proofs.Laws.{some-bytes}
+use Rattle.particle.proofs.Runs.{items-if, first-if, rest-if}
 use Rattle.particle.proofs.Emptiness.{optional-tree, leaf-tree, empty-choice, choice-tree, ordered-tree, ItemsLeft, items-start, items-end, item-decides, items-next}
 use Rattle.totals.proofs.Falls.{ofTree, ofRow, Part, part-start, part-first, part-falls, part-next, items-trees, items-fall}
 use Rattle.totals.proofs.emptiable.Reads as emptiable
@@ -43,13 +45,13 @@ module _ (t : ℕ) where
   one-calls = (record-at-reads.Asked, record-at-reads.Learnt, items-reads.Asked, items-reads.Learnt, items-below, items-emptiable.Post)
 
   abbrev items-calls : items-emptiable-lts.Claims
-  items-calls = (one-below, emptiable.Post, later-reads.Asked, later-reads.Learnt)
+  items-calls = (one-below, emptiable.Post, after-reads.Asked, after-reads.Learnt)
 
 abbrev Inv-loop : items-emptiable-lts.InvT-loop
-Inv-loop t n each items₀ left₀ items left = Part left items t × ItemsLeft each n t items left
+Inv-loop t n each measured items₀ left₀ items left = (Part left items t × RunIf measured left items) × ItemsLeft each n t items left
 
 abbrev μ-loop : items-emptiable-lts.MeasureT-loop
-μ-loop t n each items₀ left₀ items left = left
+μ-loop t n each measured items₀ left₀ items left = left
 
 pub +emptiable+items-emptiable-spec : {M : Type 1} → statement M
 +emptiable+items-emptiable-spec =
@@ -61,19 +63,19 @@ pub +emptiable+items-emptiable-spec : {M : Type 1} → statement M
     (λ c. search needs)
     (λ c. search empty-choice)
     (λ c κs. search needs)
-    (λ c κs. (search items-fall, search items-trees))
+    (λ c κs. (search items-fall, (search items-trees, search items-if)))
     (λ c. search choice-tree)
     (λ c κs. search needs)
-    (λ c κs. (search items-fall, search items-trees))
+    (λ c κs. (search items-fall, (search items-trees, search items-if)))
     (λ c. search ordered-tree))
     λ t. items-emptiable-lts.spec (items-calls t) (items-at t) items-emptiable.Post
     Inv-loop
     μ-loop
     (λ c. search (part-start, items-start))
-    (λ c κs. (search part-falls, search part-first))
+    (λ c κs. (search part-falls, (search part-first, search first-if)))
     (λ c. search (item-decides, not-true))
-    (λ c κs. search part-first)
+    (λ c κs. (search part-first, search first-if))
     (λ c. omega arith)
     (λ c. omega arith)
-    (λ c. search (part-next, items-next, not-false))
+    (λ c. search (part-next, rest-if, items-next, not-false))
     (λ c. search items-end)

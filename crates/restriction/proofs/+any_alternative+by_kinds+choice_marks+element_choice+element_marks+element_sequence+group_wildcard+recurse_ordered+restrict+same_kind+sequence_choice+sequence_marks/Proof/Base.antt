@@ -29,6 +29,7 @@ use Rattle.verdicts.proofs.combine_readings.Reads as combine-readings-reads
 use Rattle.verdicts.proofs.definite.Reads as definite-reads
 use Rattle.verdicts.proofs.element_restrict.Reads as element-restrict-reads
 use Rattle.verdicts.proofs.element_wildcard.Reads as element-wildcard-reads
+use Rattle.verdicts.proofs.first.Reads as first-reads
 use Rattle.verdicts.proofs.wildcard_wildcard.Reads as wildcard-wildcard-reads
 use Rattle.restriction.proofs.any_alternative.Reads as any-alternative
 use Rattle.restriction.proofs.any_alternative.Kinds as any-alternative-kinds
@@ -205,7 +206,7 @@ module _ (t : ℕ) where
   recurse-ordered-calls = (next-reads.Asked, next-reads.Learnt, restrict-below, restrict.Post, emptiable-reads.Asked, emptiable-reads.Learnt, definite-reads.Asked, definite-reads.Learnt, left-over-reads.Asked, left-over-reads.Learnt)
 
   abbrev pub restrict-calls : restrict-lts.Claims
-  restrict-calls = (record-at-reads.Asked, record-at-reads.Learnt, derived-range-reads.Asked, derived-range-reads.Learnt, base-range-reads.Asked, base-range-reads.Learnt, element-restrict-reads.Asked, element-restrict-reads.Learnt, by-kinds-below, by-kinds.Post)
+  restrict-calls = (record-at-reads.Asked, record-at-reads.Learnt, first-reads.Asked, first-reads.Learnt, by-kinds-below, by-kinds.Post)
 
   abbrev pub same-kind-calls : same-kind-lts.Claims
   same-kind-calls = (range-ok-reads.Asked, range-ok-reads.Learnt, recurse-ordered-below, recurse-ordered.Post)

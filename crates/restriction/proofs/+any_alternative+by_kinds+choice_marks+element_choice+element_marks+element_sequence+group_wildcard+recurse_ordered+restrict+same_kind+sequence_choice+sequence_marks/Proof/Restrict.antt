@@ -1,9 +1,9 @@
--- `restrict` meets its contract: two elements are marked at once, any other pair by the two kinds. Assumes nothing.
+-- `restrict` meets its contract: two elements that the first table keeps apart are marked at once, any other pair by the two kinds. Assumes nothing.
 use Prim.Native.Nat.{ℕ}
 use borrow.Author.Needs.{needs}
 use native.Mathlib.Omega.{arith}
 use Rattle.particle.proofs.Laws.{some-bytes}
-use Rattle.restriction.proofs.Arms.{elements-mark}
+use Rattle.restriction.proofs.Arms.{elements-apart}
 use Rattle.restriction.proofs.restrict.Reads as reads
 use Rattle.restriction.proofs.+any_alternative+by_kinds+choice_marks+element_choice+element_marks+element_sequence+group_wildcard+recurse_ordered+restrict+same_kind+sequence_choice+sequence_marks.Lts-restrict as lts
 use Rattle.restriction.proofs.+any_alternative+by_kinds+choice_marks+element_choice+element_marks+element_sequence+group_wildcard+recurse_ordered+restrict+same_kind+sequence_choice+sequence_marks.Proof.Base.{restrict-at, restrict-calls}
@@ -14,13 +14,7 @@ restrict-closed t =
     (λ c κs. search (some-bytes {n = 0}))
     (λ c κs. search (some-bytes {n = 0}))
     (λ c κs. search needs)
-    (λ c κs. search needs)
-    (λ c κs. search needs)
-    (λ c.
-    let base = c .before .before .before .before .before .before .before in
-    let start = base .before .before .before .before .before .before in
-    let a = start .args in
-    elements-mark (a .leaves .now) (a .tables .now) (a .n) (a .once) (a .any) (start .pre .1 .0) (start .pre .1 .1) (base .before .record-at .ensures) (base .record-at2 .ensures)
-    (c .before .before .before .before .before .if1 .taken) (c .before .before .before .if2 .taken) (c .before .before .derived-range .ensures) (c .before .base-range .ensures) (c .element-restrict .ensures))
+    (λ c. search needs)
+    (λ c. search elements-apart)
     (λ c κs. (omega arith, search needs))
     (λ c. search needs)
