@@ -124,7 +124,7 @@ fn mark_accepted(s: &[u8]) -> Verdict
     if both_fit(s, MIDDLE) {
         let mut derived = [0u8; MIDDLE];
         let mut base = [0u8; MIDDLE];
-        return mark_in(s, &mut derived, &mut base, true);
+        return mark_in(s, &mut derived, &mut base, false);
     }
     let mut derived = [0u8; CAPACITY];
     let mut base = [0u8; CAPACITY];
