@@ -55,7 +55,7 @@ fn early_pass(d: &[u8], b: &[u8]) -> bool
     if never(b) {
         return true;
     }
-    totals::emptiable(b, false)
+    particle::emptiable(b, false)
 }
 
 // The mark of two tidied trees, by the leaves and the tables of a sheet with n leaves.

@@ -2,7 +2,7 @@
 use mathlib.Core.Bool.{Bool, true, false, _||_, Bool·beq, true≢false, false≢true}
 use mathlib.Core.List.{List, [], _∷_}
 use mathlib.Core.Path.{_≡_, refl, ap, sym, _∙_}
-use Prim.Native.Nat.{ℕ, zero, suc, _-_, _≤_, _<_}
+use Prim.Native.Nat.{ℕ, _-_, _≤_, _<_}
 use native.Mathlib.Omega.{arith}
 use borrow.Author.Tests.{ne-eqb}
 use lib.Dec.{eqb}
@@ -12,7 +12,8 @@ use Rattle.particle.specs.Record.{recordAt, rangeOf}
 use Rattle.particle.specs.Tree.{headFrom, fold, tree}
 use Rattle.particle.specs.Rows.{Row, row, itemsPart, laterPart}
 use Rattle.particle.specs.Empty.{every, some, everyOrSome, isEmpty, optional, emptiableFrom, emptiable}
-use Rattle.particle.specs.Runs.{noteOf, Told}
+use Rattle.particle.specs.Runs.{noteOf, Told, RunIf}
+use Rattle.particle.proofs.Runs.{group-told}
 use Rattle.particle.proofs.ByKind.{any-kind}
 use Rattle.particle.proofs.Folds.{first-is, items-are, first-leaf, first-choice, first-ordered, fold-none, fold-some}
 
@@ -97,52 +98,18 @@ module _ {each : Bool} {n : ℕ} {t : List ℕ} where
       pub items-next : {u : List ℕ} → u ≡ laterPart s → Bool·beq e each ≡ true → ItemsLeft each n t u (i - 1)
       items-next p b = record { rest-says = first-then-later p ∙ sym (later-decide each e _ b) }
 
--- The same by notes. A note that isn't the one sought decides, or tells nothing.
-decides : (each : Bool) (found : ℕ) (e : Bool) (fs : List Bool) → Told found e → (found ≡ noteOf each → ⊥) → Told found (everyOrSome each (e ∷ fs))
-decides each zero e fs t d = tt
-decides true (suc zero) e fs t d = absurd (d refl)
-decides false (suc zero) e fs t d = rw t
-decides true (suc (suc zero)) e fs t d = rw t
-decides false (suc (suc zero)) e fs t d = absurd (d refl)
-decides each (suc (suc (suc n))) e fs t d = tt
-
-sought-is : (each e : Bool) → Told (noteOf each) e → e ≡ each
-sought-is true e t = t
-sought-is false e t = t
-
-goes-on : (each : Bool) (fs : List Bool) → everyOrSome each (each ∷ fs) ≡ everyOrSome each fs
-goes-on true fs = refl
-goes-on false fs = refl
-
--- e is noted
+-- what is noted, of a tree that is emptiable or not
 pub note-is : (e : Bool) {k : ℕ} {x : Bool} → k ≡ noteOf e → e ≡ x → Told k x
 note-is true q s = rw q (sym s)
 note-is false q s = rw q (sym s)
 
-module _ {each : Bool} {n : ℕ} {t : List ℕ} {s : List ℕ} {i : ℕ} (w : ItemsLeft each n t s i) {k : ℕ} (sought : k ≡ noteOf each) where
-  pub notes-end : i ≤ 0 → Told k (everyOrSome each (fold emptiableFrom (row n t)))
-  notes-end z = note-is each sought (items-end w z)
+-- by its note: r is the first tree's record, of a group
+module _ {t : List ℕ} {k : Bool} {r : Record} (w : RunIf k 1 t) (m : k ≡ true) (e : r ≡ recordAt t) (g : 2 ≤ r .kind) where
+  told : Told (r .zero) (emptiable (tree t))
+  told = group-told (w .run m) e g
 
-  -- found: what is noted of the next item
-  module _ (trees : Row i s) {m : ℕ} (some : m < i) (found : ℕ) (told : Told found (emptiable (tree s))) where
-    pub note-decides : (found ≡ k → ⊥) → Told found (everyOrSome each (fold emptiableFrom (row n t)))
-    note-decides d = rw (first-then-later w trees some refl refl) (decides each found (emptiable (tree s)) _ told (λ q. d (q ∙ sym sought)))
+  pub told-empty : r .zero ≡ 1 → true ≡ emptiable (tree t)
+  told-empty q = sym (rw q at told)
 
-    pub notes-next : {u : List ℕ} → u ≡ laterPart s → found ≡ k → ItemsLeft each n t u (i - 1)
-    notes-next p q = record { rest-says = first-then-later w trees some refl p ∙ (rw (sought-is each (emptiable (tree s)) (rw (q ∙ sought) at told)) (goes-on each _)) }
-
--- a group, by its items: r is its record
-module _ {t : List ℕ} {r : Record} (w : Row 1 t) (e : r ≡ recordAt t) where
-  pub optional-told : r .min ≡ 0 → Told 1 (emptiable (tree t))
-  optional-told z = sym (optional-tree w e z)
-
-  module _ (z : r .min ≡ 0 → ⊥) where
-    pub empty-choice-told : r .kind ≡ 3 → r .count ≡ 0 → Told 1 (emptiable (tree t))
-    empty-choice-told k n = sym (empty-choice w e z k n)
-
-    module _ {s : List ℕ} (i : s ≡ itemsPart t) (found : ℕ) where
-      pub choice-told : r .kind ≡ 3 → (r .count ≡ 0 → ⊥) → Told found (some (fold emptiableFrom (row (r .count) s))) → Told found (emptiable (tree t))
-      choice-told k n q = rw (← choice-tree w e z i k n refl) q
-
-      pub ordered-told : 2 ≤ r .kind → (r .kind ≡ 3 → ⊥) → Told found (every (fold emptiableFrom (row (r .count) s))) → Told found (emptiable (tree t))
-      ordered-told k k′ q = rw (← ordered-tree w e z i k k′ refl) q
+  pub told-required : r .zero ≡ 2 → false ≡ emptiable (tree t)
+  told-required q = sym (rw q at told)

@@ -8,7 +8,7 @@ use lib.ListN.{length, drop, length-drop}
 use Rattle.particle.specs.declared.Record.{Record}
 use Rattle.particle.specs.Record.{recordSize, maxRecords, recordAt}
 use Rattle.particle.specs.Tree.{takeI, sizeI, build, records, decode, tree}
-use Rattle.particle.specs.Rows.{row, runSize, itemsPart, laterPart}
+use Rattle.particle.specs.Rows.{Row, row, runSize, itemsPart, laterPart}
 use Rattle.particle.specs.Empty.{emptiable}
 use Rattle.particle.specs.Runs.{Told, Noted, Measured, Run, RunIf, ItemsMeasured}
 use Rattle.particle.proofs.Records.{records-cons, records-drop, length-records}
@@ -67,8 +67,12 @@ module _ {t : List ℕ} {r : Record} (w : ItemsMeasured t) (e : r ≡ recordAt t
   pub group-kind : 2 ≤ r .kind
   group-kind = rw e (w .group)
 
-  pub group-items : {s : List ℕ} → s ≡ itemsPart t → Run (r .count) s
-  group-items p = rw (e, p) (w .items)
+  module _ {s : List ℕ} (p : s ≡ itemsPart t) where
+    pub group-row : Row (r .count) s
+    group-row = rw (e, p) (w .items .row)
+
+    pub group-if : {k : Bool} → RunIf k (r .count) s
+    group-if = record { run = λ _. rw (e, p) (w .items) }
 
 -- more than m trees
 module _ {m n : ℕ} {t : List ℕ} (w : Run n t) (some : m < n) where
@@ -94,6 +98,10 @@ module _ {m : ℕ} {k : Bool} {n : ℕ} {t : List ℕ} (w : RunIf k n t) (some :
 
   pub rest-if : {s : List ℕ} → s ≡ laterPart t → RunIf k (n - 1) s
   rest-if p = record { run = λ e. rest-run (w .run e) some p }
+
+-- they are
+pub all-if : {n : ℕ} {t : List ℕ} → Run n t → {k : Bool} → RunIf k n t
+all-if w = record { run = λ _. w }
 
 -- nothing says so
 pub none-if : {n : ℕ} {t : List ℕ} → RunIf false n t

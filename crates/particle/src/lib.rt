@@ -1,4 +1,5 @@
 // Particle trees as records in preorder: the layout of a record, occurrence pairs, and the run of records that a subtree is.
+mod empty;
 mod measured;
 
 ghost use mathlib.Core.Path.{_≡_};
@@ -11,12 +12,10 @@ ghost use Rattle.particle.specs.Write.{overwrite};
 ghost use Rattle.particle.specs.Tree.{sequence, records};
 ghost use Rattle.particle.specs.Encode.{recordOf};
 ghost use Rattle.particle.specs.Rows.{Row, itemsPart, laterPart, runSize, itemStart, itemRun, ItemAt, PartOf};
-pub use measured::EMPTIABLE;
-pub use measured::NOT_EMPTIABLE;
+pub use empty::emptiable;
 pub use measured::after;
 pub use measured::measure;
 pub use measured::next;
-pub use measured::note;
 
 // The length of a record in bytes.
 pub const RECORD_SIZE: usize = 16;
@@ -40,6 +39,11 @@ const AT_MAX: usize = 12;
 
 // A tree has at most so many records.
 pub const MAX_RECORDS: usize = 1000;
+
+// The notes of a measured tree: that a group is emptiable, and that it isn't.
+const EMPTIABLE: u8 = 1;
+
+const NOT_EMPTIABLE: u8 = 2;
 
 pub const ELEMENT: u8 = 0;
 

@@ -1,25 +1,31 @@
-// Measured trees: a group's record has, in its three zero bytes, whether the group's tree is emptiable and how many records it takes.
+// Measured trees: a group's record has, in its three zero bytes, how many records the group's tree takes, and maybe whether it is emptiable.
 // The tree is the same; what follows it is found, and emptiness is told, without reading its records.
 ghost use mathlib.Core.Path.{_≡_};
 ghost use Prim.Native.Nat.{_*_, _≤_};
 ghost use lib.ListN.{length};
 ghost use Rattle.particle.specs.Record.{recordSize, maxRecords};
-ghost use Rattle.particle.specs.Tree.{sizeI, fold, tree};
+ghost use Rattle.particle.specs.Tree.{sizeI, tree};
 ghost use Rattle.particle.specs.Rows.{Row, row, laterPart};
-ghost use Rattle.particle.specs.Empty.{everyOrSome, emptiableFrom, emptiable};
+ghost use Rattle.particle.specs.Empty.{emptiable};
 ghost use Rattle.particle.specs.Runs.{noteOf, Told, Run, RunIf, ItemsMeasured};
 use crate::AT_KIND;
 use crate::AT_SIZE;
 use crate::AT_ZERO;
 use crate::CHOICE;
+use crate::EMPTIABLE;
+use crate::NOT_EMPTIABLE;
 use crate::RECORD_SIZE;
 use crate::SEQUENCE;
 use crate::count_at;
+use crate::empty::items_emptiable;
 use crate::items;
 use crate::later;
 use crate::read_u16;
 use crate::record_at;
 use crate::write_u16;
+
+// A group whose items take fewer bytes is small: whether it is emptiable is sooner asked than noted.
+const NOTED_FROM: usize = 16 * RECORD_SIZE;
 
 // The part of t that starts after the first tree.
 pub fn next(t: &[u8]) -> &[u8]
@@ -60,11 +66,6 @@ fn row_len(t: &[u8], n: usize) -> usize
     t.len() - rest.len()
 }
 
-// The notes: that a tree is emptiable, and that it isn't.
-pub const EMPTIABLE: u8 = 1;
-
-pub const NOT_EMPTIABLE: u8 = 2;
-
 // What is noted where `empty` tells whether a tree is emptiable.
 fn noted(empty: bool) -> u8
     ensures { λ r. ⌜ r ≡ noteOf empty ⌝ }
@@ -72,70 +73,40 @@ fn noted(empty: bool) -> u8
     if empty { EMPTIABLE } else { NOT_EMPTIABLE }
 }
 
-// What is known of the emptiness of the first tree of t without reading its items: a leaf's minimum tells it, a group's note may.
-pub fn note(t: &[u8]) -> u8
-    requires { ⌜ Run 1 (now t) ⌝ }
-    ensures { λ r. ⌜ Told r (emptiable (tree (now (t .entry)))) ⌝ }
-{
-    let r = record_at(t);
-    if r.kind < SEQUENCE {
-        return noted(r.min == 0);
-    }
-    r.zero
-}
-
-// What the notes tell of the first n trees of t: whether each is emptiable; without `each`, whether one of them is. The first that
-// decides ends it, and so does one of which nothing is known.
-fn items_note(t: &[u8], n: usize, each: bool) -> u8
-    requires { ⌜ Run n (now t) ⌝ }
-    ensures { λ r. ⌜ Told r (everyOrSome each (fold emptiableFrom (row n (now (t .entry))))) ⌝ }
-{
-    let sought = noted(each);
-    let mut rest = t;
-    let mut left = n;
-    while 0 < left {
-        let found = note(rest);
-        if found != sought {
-            return found;
-        }
-        let following = next(rest);
-        rest = following;
-        left -= 1;
-    }
-    sought
-}
-
-// What is to be noted of the group that t starts with, which is not measured itself.
-fn group_note(t: &[u8]) -> u8
+// Whether the group that t starts with is emptiable; it is not measured itself.
+fn group_emptiable(t: &[u8]) -> bool
     requires { ⌜ ItemsMeasured (now t) ⌝ }
-    ensures { λ r. ⌜ Told r (emptiable (tree (now (t .entry)))) ⌝ }
+    ensures { λ r. ⌜ r ≡ emptiable (tree (now (t .entry))) ⌝ }
 {
     let r = record_at(t);
     if r.min == 0 {
-        return EMPTIABLE;
+        return true;
     }
     let n = r.count as usize;
     if r.kind == CHOICE {
         if r.count == 0 {
-            return EMPTIABLE;
+            return true;
         }
-        return items_note(items(t), n, false);
+        return items_emptiable(items(t), n, false, true);
     }
-    items_note(items(t), n, true)
+    items_emptiable(items(t), n, true, true)
 }
 
-// The same where it is to be noted; else 0, which tells nothing.
-fn note_if(noting: bool, t: &[u8]) -> u8
+// What is noted of the group that t starts with, whose items take n bytes: 0, which tells nothing, of a small one, and without `noting`.
+fn note(noting: bool, n: usize, t: &[u8]) -> u8
     requires { ⌜ ItemsMeasured (now t) ⌝ }
     ensures { λ r. ⌜ Told r (emptiable (tree (now (t .entry)))) ⌝ }
 {
     if noting {
-        return group_note(t);
+        if NOTED_FROM <= n {
+            return noted(group_emptiable(t));
+        }
     }
     0
 }
 
-// Measures the tree of t: from the last record to the first, so that a group's items are measured before it. With `noting`, emptiness is noted too.
+// Measures the tree of t: from the last record to the first, so that a group's items are measured before it. With `noting`, it is noted of
+// each group that isn't small whether it is emptiable.
 pub fn measure(t: &mut [u8], noting: bool)
     requires { ⌜ Row 1 (now t) ⌝ }
     requires { ⌜ length (now t) ≤ recordSize * maxRecords ⌝ }
@@ -147,8 +118,8 @@ pub fn measure(t: &mut [u8], noting: bool)
         if t[at + AT_KIND] >= SEQUENCE {
             let count = count_at(t, at);
             let n = row_len(&t[at + RECORD_SIZE..], count);
-            let note = note_if(noting, &t[at..]);
-            t[at + AT_ZERO] = note;
+            let told = note(noting, n, &t[at..]);
+            t[at + AT_ZERO] = told;
             write_u16(t, at + AT_SIZE, (n / RECORD_SIZE + 1) as u16);
         }
     }

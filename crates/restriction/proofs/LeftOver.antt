@@ -7,17 +7,10 @@ use borrow.Author.Tests.{not-true, not-false}
 use Rattle.particle.specs.Tree.{tree}
 use Rattle.particle.specs.Rows.{row, laterPart}
 use Rattle.particle.specs.Empty.{emptiable}
-use Rattle.particle.specs.Runs.{Told, Run}
+use Rattle.particle.specs.Runs.{Run}
 use Rattle.rules.specs.Verdicts.{passes, fails}
 use Rattle.rules.specs.Walk.{leftOver}
 use Rattle.restriction.proofs.Parts.{Part, part-start, part-next, row-none, row-cons}
-
--- by its note
-pub told-empty : (note : ℕ) {e : Bool} → Told note e → note ≡ 1 → true ≡ e
-told-empty note {e} t q = sym (rw q at t)
-
-pub told-required : (note : ℕ) {e : Bool} → Told note e → note ≡ 2 → false ≡ e
-told-required note {e} t q = sym (rw q at t)
 
 -- t is the part at which the next item starts, j of them before the end
 pub record LeftOver (bn : ℕ) (bs t : List ℕ) (j : ℕ) : Type 0 where

@@ -6,7 +6,7 @@ use native.Mathlib.Nat.{le-refl}
 use native.Mathlib.Omega.{arith}
 use lib.ListN.{length}
 use Rattle.particle.specs.Tree.{Items, none, item, Particle, takeI, countI, decode, tree}
-use Rattle.particle.specs.Rows.{row, laterPart}
+use Rattle.particle.specs.Rows.{Row, row, laterPart}
 use Rattle.particle.specs.Runs.{Run}
 use Rattle.particle.proofs.Trees.{countI-take}
 use Rattle.particle.proofs.Laws.{row-is, later-shorter}
@@ -34,6 +34,9 @@ row-count {n} {t} w = countI-take n (decode t) (w .row .enough)
 module _ {n : ℕ} {t : List ℕ} (w : Run n t) (some : 0 < n) where
   pub first-tree : Run 1 t
   first-tree = run-le some w
+
+  pub first-row : Row 1 t
+  first-row = first-tree .row
 
   from-suc : Run (suc (n - 1)) t
   from-suc = run-le (omega arith) w

@@ -155,7 +155,7 @@ fn recurse_ordered(
                     if lax {
                         continue 'base;
                     }
-                    if rows::emptiable(b) {
+                    if particle::emptiable(b, true) {
                         continue 'base;
                     }
                     return verdicts::definite(Verdict::Violation(r), seen);

@@ -14,7 +14,6 @@ ghost use Rattle.verdicts.specs.Reasons.{reasonNumber, markOf};
 ghost use Rattle.verdicts.specs.Paper.{tablesOf};
 ghost use Rattle.restriction.specs.Marks.{BothMarks, standing, walkedOn, cameTo, settledAt};
 use crate::pairs::exactly_one;
-use crate::rows;
 use crate::rows::left_over;
 use particle::Occurs;
 use verdicts::Reason;
@@ -94,7 +93,7 @@ pub fn walk_on(
             if lax {
                 return Standing::On;
             }
-            if rows::emptiable(b) {
+            if particle::emptiable(b, true) {
                 return Standing::On;
             }
             Standing::Ended(Verdict::Violation(r))

@@ -3,9 +3,7 @@ ghost use mathlib.Core.Path.{_≡_};
 ghost use Prim.Native.Nat.{_≤_};
 ghost use Rattle.particle.specs.Occurs.{rangeOk};
 ghost use Rattle.particle.specs.Record.{maxRecords};
-ghost use Rattle.particle.specs.Tree.{tree};
 ghost use Rattle.particle.specs.Rows.{Row, row};
-ghost use Rattle.particle.specs.Empty.{emptiable};
 ghost use Rattle.particle.specs.Runs.{Run};
 ghost use Rattle.rules.specs.Combine.{_orFails_, _andThen_};
 ghost use Rattle.rules.specs.Walk.{leftOver, recurseUnordered};
@@ -16,18 +14,6 @@ use particle::Occurs;
 use verdicts::Reason;
 use verdicts::Verdict;
 
-// Whether the first tree of b is emptiable: its note tells it, or else its items do.
-pub fn emptiable(b: &[u8]) -> bool
-    requires { ⌜ Run 1 (now b) ⌝ }
-    ensures { λ r. ⌜ r ≡ emptiable (tree (now (b .entry))) ⌝ }
-{
-    match particle::note(b) {
-        particle::EMPTIABLE => true,
-        particle::NOT_EMPTIABLE => false,
-        _ => totals::emptiable(b, true),
-    }
-}
-
 // The first bn trees of bs, left over in an ordered walk: one that is not emptiable is missing.
 pub fn left_over(bs: &[u8], bn: usize) -> Verdict
     requires { ⌜ Run bn (now bs) ⌝ }
@@ -36,7 +22,7 @@ pub fn left_over(bs: &[u8], bn: usize) -> Verdict
     let mut bitems = bs;
     let mut j = bn;
     while 0 < j {
-        if !emptiable(bitems) {
+        if !particle::emptiable(bitems, true) {
             return Verdict::Violation(Reason::RequiredMissing);
         }
         let next = particle::next(bitems);

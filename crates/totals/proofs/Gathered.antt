@@ -17,7 +17,7 @@ use Rattle.totals.specs.Exact.{addMax, maxMax, addRange, spanRange, sum,
 use Rattle.totals.specs.Total.{cut, total}
 use Rattle.totals.specs.Cut.{addCut, spanCut}
 use Rattle.totals.proofs.CutSums.{add-cut, span-cut}
-use Rattle.totals.proofs.Falls.{Part, part-start, part-first, part-next}
+use Rattle.particle.proofs.Falls.{Part, part-start, part-first, part-next}
 use Rattle.totals.proofs.TotalRange.{totals, leaf-total}
 
 same-pair : {m n : ℕ} {a b : MaxOccurs} → m ≡ n → a ≡ b → _≡_ {A = Occurs} (record { min = m; max = a }) (record { min = n; max = b })

@@ -1,6 +1,5 @@
 pub mod Cuts
 pub mod CutSums
-pub mod Falls
 pub mod TotalRange
 pub mod Gathered
 pub mod Standard

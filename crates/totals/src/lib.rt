@@ -1,10 +1,9 @@
-// Of the first tree of a part of a tree's bytes: whether it is emptiable, and its total range.
+// The total range of the first tree of a part of a tree's bytes.
 mod ranges;
 
 ghost use mathlib.Core.Path.{_≡_};
 ghost use Rattle.particle.specs.Tree.{tree, fold};
 ghost use Rattle.particle.specs.Rows.{Row, row};
-ghost use Rattle.particle.specs.Empty.{everyOrSome, emptiableFrom, emptiable};
 ghost use Rattle.particle.specs.Runs.{Run, RunIf};
 ghost use Rattle.totals.specs.Exact.{sum, span, exactFrom};
 ghost use Rattle.totals.specs.Total.{cut, total, totalOk};
@@ -16,49 +15,6 @@ pub use ranges::TotalRange;
 pub use ranges::product_max;
 pub use ranges::product_min;
 pub use ranges::total_ok;
-
-// Whether the first tree of t is emptiable. Where t is measured, each record is read once.
-pub fn emptiable(t: &[u8], measured: bool) -> bool
-    requires { ⌜ Row 1 (now t) ⌝ }
-    requires { ⌜ RunIf measured 1 (now t) ⌝ }
-    ensures { λ r. ⌜ r ≡ emptiable (tree (now (t .entry))) ⌝ }
-{
-    let r = particle::record_at(t);
-    if r.min == 0 {
-        return true;
-    }
-    if r.kind < particle::SEQUENCE {
-        return false;
-    }
-    let n = r.count as usize;
-    if r.kind == particle::CHOICE {
-        if r.count == 0 {
-            return true;
-        }
-        return items_emptiable(particle::items(t), n, false, measured);
-    }
-    items_emptiable(particle::items(t), n, true, measured)
-}
-
-// Whether each of the first n trees of t is emptiable; without `each`, whether one of them is.
-fn items_emptiable(t: &[u8], n: usize, each: bool, measured: bool) -> bool
-    requires { ⌜ Row n (now t) ⌝ }
-    requires { ⌜ RunIf measured n (now t) ⌝ }
-    ensures { λ r. ⌜ r ≡ everyOrSome each (fold emptiableFrom (row n (now (t .entry)))) ⌝ }
-{
-    let mut items = t;
-    let mut left = n;
-    while 0 < left {
-        let found = emptiable(items, measured);
-        if found != each {
-            return found;
-        }
-        let next = particle::after(items, measured);
-        items = next;
-        left -= 1;
-    }
-    each
-}
 
 // The total range of the first tree of t. It goes as the W3C text goes (3.8.6, Effective Total Range): all and sequence, then choice; of each the
 // minimum, then the maximum, in which order `ranges` works both. A leaf, of which that text doesn't speak, has its own pair.

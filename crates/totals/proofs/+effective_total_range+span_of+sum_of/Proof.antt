@@ -18,7 +18,7 @@ use Rattle.totals.proofs.ranges.mul_range.Reads as mul-range-reads
 use Rattle.totals.proofs.ranges.own_range.Reads as own-range-reads
 use Rattle.totals.proofs.ranges.span_range.Reads as span-range-reads
 use Rattle.totals.proofs.ranges.zero.Reads as zero-reads
-use Rattle.totals.proofs.Falls.{ofTree, ofRow, first-row, part-first, part-falls, items-trees, items-fall}
+use Rattle.particle.proofs.Falls.{ofTree, ofRow, first-row, part-first, part-falls, items-trees, items-fall}
 use Rattle.totals.proofs.TotalRange.{leaf-total, choice-total, ordered-total}
 use Rattle.totals.proofs.Gathered.{Gathered, sums, spans, span-none, sum-start, span-start, leaf-item, gathered-next, gathered-end}
 use Rattle.totals.proofs.effective_total_range.Reads as effective-total-range

@@ -22,7 +22,7 @@ abbrev Walked : Type 0
 Walked = tie.After-row-len Inv-loop μ-loop
 
 abbrev Asked : Type 0
-Asked = tie.After-note-if Inv-loop μ-loop
+Asked = tie.After-note Inv-loop μ-loop
 
 abbrev walked : Asked → Walked
 walked c = c .before .before .before
@@ -60,7 +60,7 @@ measure-spec =
     (λ c. let w = walked (c .before) in omega (arith, size-fits (loop (counted w) .loop .inv) (search) (search) (counted w .count-at .ensures) (w .row-len .ensures)))
     (λ c κs. simp length-set (omega arith))
     (λ c. omega arith)
-    (λ c. let asked = c .before .before .before .before in let w = walked asked in group-measured (loop (counted w) .loop .inv) (search) (search) (counted w .count-at .ensures) (w .row-len .ensures) (asked .note-if .result) (asked .note-if .ensures) (c .before .before .write-u16 .ensures))
+    (λ c. let asked = c .before .before .before .before in let w = walked asked in group-measured (loop (counted w) .loop .inv) (search) (search) (counted w .count-at .ensures) (w .row-len .ensures) (asked .note .result) (asked .note .ensures) (c .before .before .write-u16 .ensures))
     (λ c. omega arith)
     (λ c. leaf-measured (c .before .before .before .loop .inv) (search) (search))
     (λ c. omega arith)

@@ -2,7 +2,7 @@
 use Prim.Native.Nat.{ℕ, _<_}
 use borrow.Fn.Kinds.{In}
 use borrow.Fn.PlainCycle.{Measures, is, falls, and}
-use Rattle.restriction.proofs.rows.emptiable.Reads as emptiable-reads
+use Rattle.particle.proofs.emptiable.Reads as emptiable-reads
 use Rattle.particle.proofs.items.Reads as items-reads
 use Rattle.particle.proofs.next.Reads as next-reads
 use Rattle.particle.proofs.range_ok.Reads as range-ok-reads

@@ -1,26 +1,26 @@
--- `totals::emptiable` and `items_emptiable` meet their contracts. A call goes to a shorter part, or from a row to one of its trees. Assumes nothing.
+-- `empty::emptiable` and `items_emptiable` meet their contracts. A call goes to a shorter part, or from a row to one of its trees. Assumes nothing.
 use Prim.Native.Nat.{ℕ, _<_}
 use native.Mathlib.Omega.{arith}
 use borrow.Author.Needs.{needs}
 use borrow.Author.Tests.{not-true, not-false}
 use borrow.Fn.Kinds.{In}
 use borrow.Fn.PlainCycle.{Measures, is, falls, and}
-use Rattle.particle.proofs.after.Reads as after-reads
+use Rattle.particle.proofs.measured.after.Reads as after-reads
 use Rattle.particle.proofs.items.Reads as items-reads
 use Rattle.particle.proofs.record_at.Reads as record-at-reads
 use Rattle.particle.specs.Runs.{RunIf}
 use Rattle.particle.proofs.Laws.{some-bytes}
 use Rattle.particle.proofs.Runs.{items-if, first-if, rest-if}
-use Rattle.particle.proofs.Emptiness.{optional-tree, leaf-tree, empty-choice, choice-tree, ordered-tree, ItemsLeft, items-start, items-end, item-decides, items-next}
-use Rattle.totals.proofs.Falls.{ofTree, ofRow, Part, part-start, part-first, part-falls, part-next, items-trees, items-fall}
-use Rattle.totals.proofs.emptiable.Reads as emptiable
-use Rattle.totals.proofs.emptiable.Kinds as emptiable-kinds
-use Rattle.totals.proofs.+emptiable+items_emptiable.Lts-emptiable as emptiable-lts
-use Rattle.totals.proofs.items_emptiable.Reads as items-emptiable
-use Rattle.totals.proofs.items_emptiable.Kinds as items-emptiable-kinds
-use Rattle.totals.proofs.+emptiable+items_emptiable.Lts-items_emptiable as items-emptiable-lts
-use Rattle.totals.proofs.+emptiable+items_emptiable.{statement}
-use Rattle.totals.proofs.+emptiable+items_emptiable.Tie.{close}
+use Rattle.particle.proofs.Emptiness.{told-empty, told-required, optional-tree, leaf-tree, empty-choice, choice-tree, ordered-tree, ItemsLeft, items-start, items-end, item-decides, items-next}
+use Rattle.particle.proofs.Falls.{ofTree, ofRow, Part, part-start, part-first, part-falls, part-next, items-trees, items-fall}
+use Rattle.particle.proofs.empty.emptiable.Reads as emptiable
+use Rattle.particle.proofs.empty.emptiable.Kinds as emptiable-kinds
+use Rattle.particle.proofs.empty.+emptiable+items_emptiable.Lts-emptiable as emptiable-lts
+use Rattle.particle.proofs.empty.items_emptiable.Reads as items-emptiable
+use Rattle.particle.proofs.empty.items_emptiable.Kinds as items-emptiable-kinds
+use Rattle.particle.proofs.empty.+emptiable+items_emptiable.Lts-items_emptiable as items-emptiable-lts
+use Rattle.particle.proofs.empty.+emptiable+items_emptiable.{statement}
+use Rattle.particle.proofs.empty.+emptiable+items_emptiable.Tie.{close}
 
 abbrev μ-emptiable : Measures 1 emptiable-kinds.ps ℕ
 μ-emptiable κs a = ofTree (a .0 .now)
@@ -60,6 +60,8 @@ pub +emptiable+items-emptiable-spec : {M : Type 1} → statement M
     (λ c κs. search (some-bytes {n = 0}))
     (λ c. search optional-tree)
     (λ c. search leaf-tree)
+    (λ c. search told-empty)
+    (λ c. search told-required)
     (λ c. search needs)
     (λ c. search empty-choice)
     (λ c κs. search needs)
