@@ -21,8 +21,7 @@ use verdicts::Verdict;
 // The length of the longest tree in bytes.
 const CAPACITY: usize = particle::RECORD_SIZE * particle::MAX_RECORDS;
 
-// The lengths of a short and of a middling tree in bytes: for these no long buffers are cleared. In a short one emptiness isn't noted:
-// it takes longer to note than to ask.
+// The lengths of a short and of a middling tree in bytes: for these no long buffers are cleared.
 const SHORT: usize = 512;
 
 const MIDDLE: usize = 2048;
@@ -83,14 +82,14 @@ fn prepare(t: &[u8], out: &mut [u8], noting: bool) -> usize
 }
 
 // The mark of an accepted sheet: both trees are tidied first, into the buffers. Emptiness is asked of the base tree only.
-fn mark_in(s: &[u8], derived: &mut [u8], base: &mut [u8], noting: bool) -> Verdict
+fn mark_in(s: &[u8], derived: &mut [u8], base: &mut [u8]) -> Verdict
     requires { ⌜ sheetRefusal (now s) ≡ Accepted ⌝ }
     requires { ⌜ Buffer (derivedPart (now s)) (now derived) ⌝ }
     requires { ⌜ Buffer (basePart (now s)) (now base) ⌝ }
     ensures { λ r. ⌜ markOf r ≡ markOfSheet (now (s .entry)) ⌝ }
 {
     let d = prepare(sheet::derived(s), derived, false);
-    let b = prepare(sheet::base(s), base, noting);
+    let b = prepare(sheet::base(s), base, true);
     mark_tidied(
         &derived[..d],
         &base[..b],
@@ -119,16 +118,16 @@ fn mark_accepted(s: &[u8]) -> Verdict
     if both_fit(s, SHORT) {
         let mut derived = [0u8; SHORT];
         let mut base = [0u8; SHORT];
-        return mark_in(s, &mut derived, &mut base, false);
+        return mark_in(s, &mut derived, &mut base);
     }
     if both_fit(s, MIDDLE) {
         let mut derived = [0u8; MIDDLE];
         let mut base = [0u8; MIDDLE];
-        return mark_in(s, &mut derived, &mut base, false);
+        return mark_in(s, &mut derived, &mut base);
     }
     let mut derived = [0u8; CAPACITY];
     let mut base = [0u8; CAPACITY];
-    mark_in(s, &mut derived, &mut base, true)
+    mark_in(s, &mut derived, &mut base)
 }
 
 // The mark of the sheet s, or its refusal.
