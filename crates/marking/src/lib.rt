@@ -21,7 +21,8 @@ use verdicts::Verdict;
 // The length of the longest tree in bytes.
 const CAPACITY: usize = particle::RECORD_SIZE * particle::MAX_RECORDS;
 
-// The lengths of a short and of a middling tree in bytes: for these no long buffers are cleared.
+// The lengths of a short and of a middling tree in bytes: for these no long buffers are cleared, and emptiness is not noted, which takes
+// longer than it saves.
 const SHORT: usize = 512;
 
 const MIDDLE: usize = 2048;
@@ -82,14 +83,14 @@ fn prepare(t: &[u8], out: &mut [u8], noting: bool) -> usize
 }
 
 // The mark of an accepted sheet: both trees are tidied first, into the buffers. Emptiness is asked of the base tree only.
-fn mark_in(s: &[u8], derived: &mut [u8], base: &mut [u8]) -> Verdict
+fn mark_in(s: &[u8], derived: &mut [u8], base: &mut [u8], noting: bool) -> Verdict
     requires { ⌜ sheetRefusal (now s) ≡ Accepted ⌝ }
     requires { ⌜ Buffer (derivedPart (now s)) (now derived) ⌝ }
     requires { ⌜ Buffer (basePart (now s)) (now base) ⌝ }
     ensures { λ r. ⌜ markOf r ≡ markOfSheet (now (s .entry)) ⌝ }
 {
     let d = prepare(sheet::derived(s), derived, false);
-    let b = prepare(sheet::base(s), base, true);
+    let b = prepare(sheet::base(s), base, noting);
     mark_tidied(
         &derived[..d],
         &base[..b],
@@ -118,16 +119,16 @@ fn mark_accepted(s: &[u8]) -> Verdict
     if both_fit(s, SHORT) {
         let mut derived = [0u8; SHORT];
         let mut base = [0u8; SHORT];
-        return mark_in(s, &mut derived, &mut base);
+        return mark_in(s, &mut derived, &mut base, false);
     }
     if both_fit(s, MIDDLE) {
         let mut derived = [0u8; MIDDLE];
         let mut base = [0u8; MIDDLE];
-        return mark_in(s, &mut derived, &mut base);
+        return mark_in(s, &mut derived, &mut base, false);
     }
     let mut derived = [0u8; CAPACITY];
     let mut base = [0u8; CAPACITY];
-    mark_in(s, &mut derived, &mut base)
+    mark_in(s, &mut derived, &mut base, true)
 }
 
 // The mark of the sheet s, or its refusal.

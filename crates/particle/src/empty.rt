@@ -43,7 +43,7 @@ pub fn emptiable(t: &[u8], measured: bool) -> bool
     items_emptiable(items(t), n, true, measured)
 }
 
-// Whether each of the first n trees of t is emptiable; without `each`, whether one of them is.
+// Whether each of the first n trees of t is emptiable; without `each`, whether one of them is. Only a group is asked by a call.
 pub fn items_emptiable(t: &[u8], n: usize, each: bool, measured: bool) -> bool
     requires { ⌜ Row n (now t) ⌝ }
     requires { ⌜ RunIf measured n (now t) ⌝ }
@@ -52,7 +52,12 @@ pub fn items_emptiable(t: &[u8], n: usize, each: bool, measured: bool) -> bool
     let mut rest = t;
     let mut left = n;
     while 0 < left {
-        let found = emptiable(rest, measured);
+        let head = record_at(rest);
+        let found = if head.kind < SEQUENCE {
+            head.min == 0
+        } else {
+            emptiable(rest, measured)
+        };
         if found != each {
             return found;
         }

@@ -25,7 +25,7 @@ use crate::record_at;
 use crate::write_u16;
 
 // A group whose items take fewer bytes is small: whether it is emptiable is sooner asked than noted.
-const NOTED_FROM: usize = 6 * RECORD_SIZE;
+const NOTED_FROM: usize = 8 * RECORD_SIZE;
 
 // The part of t that starts after the first tree.
 pub fn next(t: &[u8]) -> &[u8]
