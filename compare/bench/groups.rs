@@ -9,12 +9,15 @@ use common::sheet::Sheet;
 use common::tree::{Kind, MOST_RECORDS};
 use draw::sheets::{self, Size};
 
+use crate::families::{self, SIZES};
 use crate::{wide, worst};
 
 /// A group, and how its sheets are chosen.
 pub struct Group {
     pub name: String,
     choice: Choice,
+    /// The family that it belongs to, and the records of its trees.
+    pub family: Option<(&'static str, usize)>,
 }
 
 enum Choice {
@@ -28,21 +31,6 @@ enum Choice {
     Wide(usize),
 }
 
-/// The records of each tree that grows with its family.
-const SIZES: [usize; 3] = [250, 500, MOST_RECORDS];
-
-/// Families of sheets whose marking is long, by these records. In the first
-/// three of the worst the base is a short chain.
-const FAMILIES: [(&str, fn(usize) -> Sheet); 7] = [
-    ("all-groups", |records| limits::other_order(Kind::All, records - 1)),
-    ("worst", |records| limits::longest(records - 1)),
-    ("worst, undecided", |records| worst::chain(records - 1, Kind::Choice, 1, (1, 1))),
-    ("worst, sequences", |records| worst::chain(records - 1, Kind::Sequence, 1, (1, 1))),
-    ("worst, wide", |records| worst::of_records(records, (1, 1))),
-    ("worst, failing", |records| worst::of_records(records, (140, 140))),
-    ("worst, own pairs", |records| worst::of_records(records, (0, 1))),
-];
-
 pub fn every() -> Vec<Group> {
     let mut out = vec![
         drawn("small", 2000, Size::Small, 1..=7, 1..=8),
@@ -53,8 +41,12 @@ pub fn every() -> Vec<Group> {
         drawn("any", 2000, Size::Any, 1..=64, 1..=1000),
         drawn("700 records", 60, Size::Between(600, 800), 1..=64, 600..=800),
         drawn("1000 records", 60, Size::Between(900, 1000), 1..=64, 900..=1000),
-        Group { name: "wide, wildcard".into(), choice: Choice::Wide(254) },
-        Group { name: "widest, wildcard".into(), choice: Choice::Wide(MOST_RECORDS - 1) },
+        Group { name: "wide, wildcard".into(), choice: Choice::Wide(254), family: None },
+        Group {
+            name: "widest, wildcard".into(),
+            choice: Choice::Wide(MOST_RECORDS - 1),
+            family: None,
+        },
         long("worst", limits::longest(254)),
         long("worst, undecided", worst::chain(254, Kind::Choice, 1, (1, 1))),
         long("worst, sequences", worst::chain(254, Kind::Sequence, 1, (1, 1))),
@@ -62,15 +54,18 @@ pub fn every() -> Vec<Group> {
         long("worst, failing", worst::chain(2, Kind::Choice, 240, (140, 140))),
         long("worst, own pairs", worst::chain(254, Kind::Choice, 240, (0, 1))),
     ];
-    for (name, of) in FAMILIES {
-        let sized = |records| long(&format!("{name}, {records} records"), of(records));
-        out.extend(SIZES.map(sized));
+    for family in families::every() {
+        out.extend(SIZES.map(|records| {
+            let name = format!("{}, {records} records", family.name);
+            let choice = Choice::Long(family.sheet(records));
+            Group { name, choice, family: Some((family.name, records)) }
+        }));
     }
     out
 }
 
 fn long(name: &str, sheet: Sheet) -> Group {
-    Group { name: name.into(), choice: Choice::Long(sheet) }
+    Group { name: name.into(), choice: Choice::Long(sheet), family: None }
 }
 
 fn drawn(
@@ -80,7 +75,7 @@ fn drawn(
     leaves: RangeInclusive<usize>,
     records: RangeInclusive<usize>,
 ) -> Group {
-    Group { name: name.into(), choice: Choice::Drawn(count, size, leaves, records) }
+    Group { name: name.into(), choice: Choice::Drawn(count, size, leaves, records), family: None }
 }
 
 impl Group {

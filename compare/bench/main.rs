@@ -8,6 +8,7 @@ mod chains;
 #[path = "../sheets/check.rs"]
 mod check;
 mod direct;
+mod families;
 mod groups;
 mod models;
 mod peers;
@@ -18,12 +19,14 @@ mod totals;
 mod wide;
 mod worst;
 
+use families::Growth;
 use groups::Group;
 use subjects::Subject;
 use table::Row;
 
-/// The name by which the peers are chosen.
+/// The names by which the peers, and all families, are chosen.
 const PEERS: &str = "peers";
+const FAMILIES: &str = "families";
 
 struct Options {
     seed: u64,
@@ -36,13 +39,19 @@ impl Options {
     fn wants(&self, name: &str) -> bool {
         self.group.as_deref().is_none_or(|only| only == name)
     }
+
+    /// By its own name, its family's or that of all families.
+    fn wants_group(&self, group: &Group) -> bool {
+        let family = |(family, _)| self.wants(family) || self.wants(FAMILIES);
+        self.wants(&group.name) || group.family.is_some_and(family)
+    }
 }
 
 fn main() {
     let options = options();
     print_load();
     let mut groups = groups::every();
-    groups.retain(|group| options.wants(&group.name));
+    groups.retain(|group| options.wants_group(group));
     print_groups(&groups, &options);
     if options.wants(chains::NAME) {
         chains::print(options.seed, options.rounds);
@@ -69,24 +78,30 @@ fn print_load() {
 
 fn print_groups(groups: &[Group], options: &Options) {
     let mut highest = None;
+    let mut growths: Vec<Growth> = Vec::new();
     for (place, group) in groups.iter().enumerate() {
         let subjects = subjects::ready(&group.name, &group.sheets(options.seed));
         if place == 0 {
             table::print_head("sheets", "particles");
         }
         for (mark, part) in parts(&subjects) {
-            let times = time::measure(&part, time::MARKING, options.rounds);
+            let times = time::marking(&part, options.rounds);
             let bytes = part.iter().map(|subject| subject.bytes.len()).sum();
             let row = Row { group: &group.name, mark, count: part.len(), bytes, times };
             println!("{row}");
-            if highest.is_none_or(|(ratio, _)| row.ratio() > ratio) {
-                highest = Some((row.ratio(), &group.name));
+            let ratio = row.times.ratio().unwrap_or(0.0);
+            if highest.is_none_or(|(highest, _)| ratio > highest) {
+                highest = Some((ratio, &group.name));
+            }
+            if let Some(family) = group.family {
+                families::add(&mut growths, family, row.times);
             }
         }
     }
     if let Some((ratio, name)) = highest {
         println!("\nThe highest ratio is {ratio:.2}, in the group '{name}'.");
     }
+    families::print(&growths);
 }
 
 /// The group whole, then by the mark.
@@ -121,10 +136,12 @@ fn options() -> Options {
     options
 }
 
-/// The name of a group, of the chains, of the total ranges, or of the peers.
+/// The name of a group, of a family, of the chains, of the total ranges, or of the
+/// peers.
 fn group(name: String) -> String {
-    let others = [chains::NAME, totals::NAME, PEERS].map(String::from);
-    let names = groups::every().into_iter().map(|group| group.name).chain(others);
+    let others = [FAMILIES, chains::NAME, totals::NAME, PEERS].map(String::from);
+    let families = families::every().into_iter().map(|family| family.name.into());
+    let names = groups::every().into_iter().map(|group| group.name).chain(families).chain(others);
     let names: Vec<String> = names.collect();
     if !names.contains(&name) {
         usage(&format!("there is no group '{name}', but: {}", names.join("; ")));

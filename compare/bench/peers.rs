@@ -74,14 +74,14 @@ pub fn print(rounds: usize) -> std::io::Result<()> {
 fn print_ours(model: &Model, rounds: usize) {
     let subjects = subjects::ready(model.name, &[model.sheet()]);
     let subjects: Vec<&Subject> = subjects.iter().collect();
-    let times = time::measure(&subjects, time::MARKING, rounds);
+    let times = time::marking(&subjects, rounds);
     let records = format!("{} and {}", model.derived().records(), model.base().records());
     let answer = answers::text(subjects[0].mark);
     let row = |who, time: f64| {
         println!("| {} | {records} | {who} | {answer} | | {:.2} |", model.name, time / 1000.0);
     };
     row("Rattle, from bytes", times.library.least);
-    row("Rust, particles ready", times.ready.least);
+    row("Rust, particles ready", times.ready.expect("a short marking").least);
 }
 
 fn print_peer(model: &Model, peer: &Peer) {

@@ -3,7 +3,7 @@
 
 use std::fmt;
 
-use crate::time::Times;
+use crate::time::{Time, Times};
 
 pub struct Row<'a> {
     pub group: &'a str,
@@ -12,13 +12,6 @@ pub struct Row<'a> {
     pub count: usize,
     pub bytes: usize,
     pub times: Times,
-}
-
-impl Row<'_> {
-    /// The library's time over the Rust's on the same bytes.
-    pub fn ratio(&self) -> f64 {
-        self.times.library.least / self.times.bytes.least
-    }
 }
 
 /// `inputs` are sheets, chains or trees, `ready` what the Rust may find ready.
@@ -32,10 +25,19 @@ pub fn print_head(inputs: &str, ready: &str) {
 impl fmt::Display for Row<'_> {
     fn fmt(&self, f: &mut fmt::Formatter<'_>) -> fmt::Result {
         let Times { ready, bytes, library } = &self.times;
+        let least = |time: &Option<Time>| time.map(|time| time.least);
+        let to = |time: Option<f64>| time.map(|time| library.least / time);
+        let medians = bytes.map(|bytes| library.median / bytes.median);
         write!(f, "| {} | {} | {} ", self.group, self.mark, self.count)?;
         write!(f, "| {} ", self.bytes / self.count)?;
-        write!(f, "| {:.0} | {:.0} | {:.0} ", bytes.least, ready.least, library.least)?;
-        write!(f, "| {:.2} | {:.2} ", self.ratio(), library.median / bytes.median)?;
-        write!(f, "| {:.2} |", library.least / ready.least)
+        write!(f, "| {} | {} ", cell(least(bytes), 0), cell(least(ready), 0))?;
+        write!(f, "| {:.0} ", library.least)?;
+        write!(f, "| {} | {} ", cell(self.times.ratio(), 2), cell(medians, 2))?;
+        write!(f, "| {} |", cell(to(least(ready)), 2))
     }
+}
+
+/// A number, or a stroke where it was not measured.
+fn cell(number: Option<f64>, digits: usize) -> String {
+    number.map_or("-".into(), |number| format!("{number:.digits$}"))
 }

@@ -15,6 +15,7 @@ use crate::subjects::Subject;
 const BATCH: usize = 25;
 /// No further round begins after so long; the slowest sheets have one round.
 const ENOUGH: Duration = Duration::from_secs(4);
+const ENOUGH_ALONE: Duration = Duration::from_secs(1);
 
 /// Nanoseconds a sheet, chain or tree, from the least and from the median time of each batch.
 #[derive(Clone, Copy, Default)]
@@ -28,40 +29,93 @@ pub struct Time {
 pub type Measured<S> = [fn(&[&S]) -> f64; 3];
 
 /// Those who mark sheets.
-pub const MARKING: Measured<Subject> = [rust_ready, rust_bytes, library];
+const MARKING: Measured<Subject> = [rust_ready, rust_bytes, library];
+
+/// The place of the library in these.
+const LIBRARY: usize = 2;
+
+/// Who is left out, since a marking takes too long.
+#[derive(Clone, Copy, PartialEq, PartialOrd)]
+pub enum Without {
+    Nobody,
+    /// The Rust from ready particles, which then takes no other time than from
+    /// the bytes.
+    Ready,
+    /// The Rust.
+    Rust,
+}
 
 pub struct Times {
     /// The Rust, from particles that are ready.
-    pub ready: Time,
+    pub ready: Option<Time>,
     /// The Rust, from the bytes.
-    pub bytes: Time,
+    pub bytes: Option<Time>,
     /// The library, from the bytes.
     pub library: Time,
 }
 
+impl Times {
+    /// The library's time over the Rust's on the same bytes.
+    pub fn ratio(&self) -> Option<f64> {
+        Some(self.library.least / self.bytes?.least)
+    }
+}
+
+/// The marking of sheets, by those whom none of them keeps too long.
+pub fn marking(subjects: &[&Subject], rounds: usize) -> Times {
+    let without = subjects.iter().map(|subject| subject.without);
+    let without = without.fold(Without::Nobody, |most, each| if each > most { each } else { most });
+    measure_without(subjects, MARKING, without, rounds)
+}
+
 pub fn measure<S>(subjects: &[&S], measured: Measured<S>, rounds: usize) -> Times {
+    measure_without(subjects, measured, Without::Nobody, rounds)
+}
+
+fn measure_without<S>(
+    subjects: &[&S],
+    measured: Measured<S>,
+    without: Without,
+    rounds: usize,
+) -> Times {
     let batches: Vec<&[&S]> = subjects.chunks(BATCH).collect();
     let mut times: Vec<[Vec<f64>; 3]> = vec![Default::default(); batches.len()];
-    let start = Instant::now();
+    let first = without as usize;
+    let mut start = Instant::now();
+    let mut alone = false;
     for round in 0..rounds {
-        if round > 0 && start.elapsed() > ENOUGH {
+        // Where the Rust took all the time, the library has rounds of its own.
+        if round > 0 && !alone && start.elapsed() > ENOUGH {
+            (alone, start) = (true, Instant::now());
+        }
+        if alone && start.elapsed() > ENOUGH_ALONE {
             break;
         }
         for (batch, times) in batches.iter().zip(&mut times) {
             for turn in 0..3 {
                 let who = (round + turn) % 3;
-                times[who].push(measured[who](batch));
+                if who >= first && (!alone || who == LIBRARY) {
+                    times[who].push(measured[who](batch));
+                }
             }
         }
     }
-    let mut sums = [Time::default(); 3];
+    let [ready, bytes, library] = sums(times, subjects.len());
+    Times { ready, bytes, library: library.expect("the library is always measured") }
+}
+
+/// The least and the median time of each batch, summed up; nothing for one who
+/// was left out.
+fn sums(times: Vec<[Vec<f64>; 3]>, count: usize) -> [Option<Time>; 3] {
+    let mut sums = [Some(Time::default()); 3];
     for (sum, mut times) in times.into_iter().flat_map(|times| (0..3).zip(times)) {
         times.sort_by(f64::total_cmp);
-        sums[sum].least += times[0] / subjects.len() as f64;
-        sums[sum].median += times[times.len() / 2] / subjects.len() as f64;
+        sums[sum] = sums[sum].filter(|_| !times.is_empty()).map(|so_far| Time {
+            least: so_far.least + times[0] / count as f64,
+            median: so_far.median + times[times.len() / 2] / count as f64,
+        });
     }
-    let [ready, bytes, library] = sums;
-    Times { ready, bytes, library }
+    sums
 }
 
 pub fn nanoseconds(start: Instant) -> f64 {

@@ -6,6 +6,25 @@ use super::Verdict;
 use crate::reasons::{self, Mark};
 use crate::stubs::{CompiledSchema, ComplexType, Particle, Types};
 
+/// Called at each entry of the rule that goes by two kinds. `compare/run search`
+/// counts them; elsewhere nothing is done, and no time is taken.
+#[inline(always)]
+pub(super) fn entered() {
+    #[cfg(counted)]
+    ENTRIES.set(ENTRIES.get() + 1);
+}
+
+#[cfg(counted)]
+thread_local! {
+    static ENTRIES: std::cell::Cell<u64> = const { std::cell::Cell::new(0) };
+}
+
+/// The entries so far.
+#[cfg(counted)]
+pub fn entries() -> u64 {
+    ENTRIES.get()
+}
+
 /// The first table's verdict on two elements.
 pub(super) fn first(derived: u8, base: u8, schema: &CompiledSchema) -> Verdict {
     verdict(schema.first[place(derived, base, schema)])
