@@ -243,6 +243,11 @@ class Marks(Command):
     def test_samples_with_chains(self):
         self.check_samples(CHAIN_MARKS)
 
+    def test_longest(self):
+        """The longest marking that we know (docs/BENCHMARK.md)."""
+        data = (SAMPLES / "longest.sheet").read_bytes()
+        self.assertEqual(marker.mark(data), marker.Mark("passes", None))
+
     def test_reading_ends_in_the_mark(self):
         words = b"# passes: the derived tree restricts the base tree\n"
         self.check(run("read", SMALLEST), 0, b"a | a(0,1)\n" + words, "")

@@ -52,7 +52,7 @@ const FOUND: [(&str, &str); 10] = [
     (
         "found, several chains",
         "S item=e | C(0,*) levels=10 of=S(1,2) last=S(1,2) item=e(0,1) tail=w(0,*) \
-         fill=chains few=4 | item=late tail=ok",
+         fill=chains few=1 | item=late tail=ok",
     ),
     (
         "found, choices of groups",

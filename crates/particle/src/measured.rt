@@ -24,8 +24,9 @@ use crate::read_u16;
 use crate::record_at;
 use crate::write_u16;
 
-// A group whose items take fewer bytes is small: whether it is emptiable is sooner asked than noted.
-const NOTED_FROM: usize = 8 * RECORD_SIZE;
+// A group whose items take fewer bytes is small: whether it is emptiable is sooner asked than noted, but for one of a chain, whose one item
+// may be of the chain too.
+const NOTED_FROM: usize = 16 * RECORD_SIZE;
 
 // The part of t that starts after the first tree.
 pub fn next(t: &[u8]) -> &[u8]
@@ -92,17 +93,21 @@ fn group_emptiable(t: &[u8]) -> bool
     items_emptiable(items(t), n, true, true)
 }
 
-// What is noted of the group that t starts with, whose items take n bytes: 0, which tells nothing, of a small one, and without `noting`.
-fn note(noting: bool, n: usize, t: &[u8]) -> u8
+// What is noted of the group that t starts with, whose `count` items take n bytes: 0, which tells nothing, of a small one that has not
+// just one item, and without `noting`.
+fn note(noting: bool, count: usize, n: usize, t: &[u8]) -> u8
     requires { ⌜ ItemsMeasured (now t) ⌝ }
     ensures { λ r. ⌜ Told r (emptiable (tree (now (t .entry)))) ⌝ }
 {
-    if noting {
-        if NOTED_FROM <= n {
-            return noted(group_emptiable(t));
+    if !noting {
+        return 0;
+    }
+    if n < NOTED_FROM {
+        if count != 1 {
+            return 0;
         }
     }
-    0
+    noted(group_emptiable(t))
 }
 
 // Measures the tree of t: from the last record to the first, so that a group's items are measured before it. With `noting`, it is noted of
@@ -118,7 +123,7 @@ pub fn measure(t: &mut [u8], noting: bool)
         if t[at + AT_KIND] >= SEQUENCE {
             let count = count_at(t, at);
             let n = row_len(&t[at + RECORD_SIZE..], count);
-            let told = note(noting, n, &t[at..]);
+            let told = note(noting, count, n, &t[at..]);
             t[at + AT_ZERO] = told;
             write_u16(t, at + AT_SIZE, (n / RECORD_SIZE + 1) as u16);
         }
