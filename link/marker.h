@@ -37,8 +37,9 @@
  * process. A call takes less than MARKER_MOST_STACK bytes, by the frames in the
  * archive (link/stack) and an argument on how deep calls nest (README, 'Memory
  * and time'); tests with deep trees run on a stack of that size and a page more.
- * No contract bounds the time either; the longest marking that we know takes
- * some 270 milliseconds (docs/BENCHMARK.md, 'worst, own pairs, 1000 records').
+ * No contract bounds the time either. It grows as the product of the two trees'
+ * records; the longest marking that we know takes some 36 milliseconds
+ * (samples/longest.sheet, with 1000 records in either tree; docs/BENCHMARK.md).
  */
 #ifndef MARKER_H
 #define MARKER_H
