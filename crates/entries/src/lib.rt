@@ -48,7 +48,7 @@ pub fn emptiable(t: &[u8]) -> EmptiableAnswer
     match intake::check_alone(t) {
         Checked::Refused(f) => EmptiableAnswer::Refused(Refusal::Derived(f)),
         Checked::Accepted => {
-            if particle::emptiable(t, false) {
+            if particle::emptiable(t) {
                 EmptiableAnswer::Yes
             } else {
                 EmptiableAnswer::No

@@ -21,9 +21,8 @@ use verdicts::Verdict;
 // The length of the longest tree in bytes.
 const CAPACITY: usize = particle::RECORD_SIZE * particle::MAX_RECORDS;
 
-// The lengths of a short and of a middling tree in bytes: for these no long buffers are cleared, and emptiness is not noted, which takes
-// longer than it saves.
-const SHORT: usize = 512;
+// The lengths of a short and of a middling tree in bytes: for these no long buffers are cleared.
+const SHORT: usize = 256;
 
 const MIDDLE: usize = 2048;
 
@@ -55,7 +54,7 @@ fn early_pass(d: &[u8], b: &[u8]) -> bool
     if never(b) {
         return true;
     }
-    particle::emptiable(b, false)
+    particle::emptiable(b)
 }
 
 // The mark of two tidied trees, by the leaves and the tables of a sheet with n leaves.
@@ -70,27 +69,27 @@ fn mark_tidied(d: &[u8], b: &[u8], leaves: &[u8], tables: &[u8], n: u8) -> Verdi
     restriction::restrict(d, false, b, false, leaves, tables, n)
 }
 
-// The tree of t, tidied and measured, at the start of out: answers how many bytes it takes. With `noting`, emptiness is noted.
-fn prepare(t: &[u8], out: &mut [u8], noting: bool) -> usize
+// The tree of t, tidied and measured, at the start of out: answers how many bytes it takes.
+fn prepare(t: &[u8], out: &mut [u8]) -> usize
     requires { ⌜ Row 1 (now t) ⌝ }
     requires { ⌜ Faithful (records (now t)) ⌝ }
     requires { ⌜ Buffer (now t) (now out) ⌝ }
     ensures { λ r. ⌜ Prepared (now (t .entry)) (now (out .exit)) r ⌝ }
 {
     let n = tidying::normalize_in(t, out);
-    particle::measure(&mut out[..n], noting);
+    particle::measure(&mut out[..n]);
     n
 }
 
-// The mark of an accepted sheet: both trees are tidied first, into the buffers. Emptiness is asked of the base tree only.
-fn mark_in(s: &[u8], derived: &mut [u8], base: &mut [u8], noting: bool) -> Verdict
+// The mark of an accepted sheet: both trees are tidied first, into the buffers.
+fn mark_in(s: &[u8], derived: &mut [u8], base: &mut [u8]) -> Verdict
     requires { ⌜ sheetRefusal (now s) ≡ Accepted ⌝ }
     requires { ⌜ Buffer (derivedPart (now s)) (now derived) ⌝ }
     requires { ⌜ Buffer (basePart (now s)) (now base) ⌝ }
     ensures { λ r. ⌜ markOf r ≡ markOfSheet (now (s .entry)) ⌝ }
 {
-    let d = prepare(sheet::derived(s), derived, false);
-    let b = prepare(sheet::base(s), base, noting);
+    let d = prepare(sheet::derived(s), derived);
+    let b = prepare(sheet::base(s), base);
     mark_tidied(
         &derived[..d],
         &base[..b],
@@ -119,16 +118,16 @@ fn mark_accepted(s: &[u8]) -> Verdict
     if both_fit(s, SHORT) {
         let mut derived = [0u8; SHORT];
         let mut base = [0u8; SHORT];
-        return mark_in(s, &mut derived, &mut base, false);
+        return mark_in(s, &mut derived, &mut base);
     }
     if both_fit(s, MIDDLE) {
         let mut derived = [0u8; MIDDLE];
         let mut base = [0u8; MIDDLE];
-        return mark_in(s, &mut derived, &mut base, false);
+        return mark_in(s, &mut derived, &mut base);
     }
     let mut derived = [0u8; CAPACITY];
     let mut base = [0u8; CAPACITY];
-    mark_in(s, &mut derived, &mut base, true)
+    mark_in(s, &mut derived, &mut base)
 }
 
 // The mark of the sheet s, or its refusal.

@@ -12,8 +12,6 @@ use Rattle.particle.specs.Record.{recordAt, rangeOf}
 use Rattle.particle.specs.Tree.{headFrom, fold, tree}
 use Rattle.particle.specs.Rows.{Row, row, itemsPart, laterPart}
 use Rattle.particle.specs.Empty.{every, some, everyOrSome, isEmpty, optional, emptiableFrom, emptiable}
-use Rattle.particle.specs.Runs.{noteOf, Told, RunIf}
-use Rattle.particle.proofs.Runs.{group-told}
 use Rattle.particle.proofs.ByKind.{any-kind}
 use Rattle.particle.proofs.Folds.{first-is, items-are, first-leaf, first-choice, first-ordered, fold-none, fold-some}
 
@@ -30,7 +28,7 @@ module _ {t : List ℕ} {r : Record} (w : Row 1 t) (e : r ≡ recordAt t) where
   unfolding emptiable
   optional-tree z = sym (first-is emptiableFrom w e ∙ optional-from (r .kind) (r .leaf) (rangeOf r) _ z)
 
-  pub by-minimum : r .kind < 2 → eqb (r .min) 0 ≡ emptiable (tree t)
+  by-minimum : r .kind < 2 → eqb (r .min) 0 ≡ emptiable (tree t)
   unfolding emptiable
   by-minimum k = sym (first-leaf emptiableFrom w e (λ l p es. refl) k)
 
@@ -97,19 +95,3 @@ module _ {each : Bool} {n : ℕ} {t : List ℕ} where
 
       pub items-next : {u : List ℕ} → u ≡ laterPart s → Bool·beq e each ≡ true → ItemsLeft each n t u (i - 1)
       items-next p b = record { rest-says = first-then-later p ∙ sym (later-decide each e _ b) }
-
--- what is noted, of a tree that is emptiable or not
-pub note-is : (e : Bool) {k : ℕ} {x : Bool} → k ≡ noteOf e → e ≡ x → Told k x
-note-is true q s = rw q (sym s)
-note-is false q s = rw q (sym s)
-
--- by its note: r is the first tree's record, of a group
-module _ {t : List ℕ} {k : Bool} {r : Record} (w : RunIf k 1 t) (m : k ≡ true) (e : r ≡ recordAt t) (g : 2 ≤ r .kind) where
-  told : Told (r .zero) (emptiable (tree t))
-  told = group-told (w .run m) e g
-
-  pub told-empty : r .zero ≡ 1 → true ≡ emptiable (tree t)
-  told-empty q = sym (rw q at told)
-
-  pub told-required : r .zero ≡ 2 → false ≡ emptiable (tree t)
-  told-required q = sym (rw q at told)

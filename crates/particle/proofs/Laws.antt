@@ -90,6 +90,11 @@ pub row-one : {t : List ℕ} → Row 1 t → row 1 t ≡ single (tree t)
 unfolding takeI
 row-one w = row-is w
 
+-- a record without items is a tree
+pub bare-run : {t : List ℕ} → Row 1 t → recordAt t .count ≡ 0 → runSize t ≡ recordSize
+unfolding runSize takeI sizeI
+bare-run {t} w z = rw (row-one w, tree-is w, z)
+
 -- the records of a row that is not empty: those of the first tree and those of the later ones
 pub row-sizes : {n : ℕ} {t : List ℕ} → Row n t → 0 < n → sizeI (row n t) ≡ sizeI (row 1 t) + sizeI (row (n - 1) (laterPart t))
 unfolding sizeI

@@ -15,6 +15,7 @@ pub mod EncodeParts
 pub mod ByKind
 pub mod Heads
 pub mod Folds
+pub mod Found
 pub mod Falls
 pub mod Emptiness
 pub mod Every

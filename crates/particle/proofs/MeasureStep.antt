@@ -1,4 +1,5 @@
--- The loop of `measure`: from a byte on, each group is measured, and the trees are those that they were. Assumes nothing.
+-- The loop of `measure`: from a byte on, each record that has items is measured, and the trees are those that they were. Assumes nothing.
+use mathlib.Core.Bool.{Bool}
 use mathlib.Core.Path.{_≡_, refl, ap, sym, _∙_}
 use mathlib.Core.List.{List, [], _∷_}
 use Prim.Native.Nat.{ℕ, zero, suc, _+_, _*_, _-_, _/_, _%_, _≤_, _<_}
@@ -8,9 +9,10 @@ use lib.Seq.{sets, length-sets, take-take, take-add, drop-at, length-take-le, dr
 use Rattle.particle.specs.declared.Record.{Record}
 use Rattle.particle.specs.Record.{recordSize, maxRecords, atKind, atLeaf, atCount, atUnbounded, atZero, atSize, atMin, atMax, half, halfBytes, word, recordAt}
 use Rattle.particle.specs.Tree.{takeI, countI, sizeI, headOf, build, records, decode, firstOf, tree}
-use Rattle.particle.specs.Rows.{Complete, Row, row}
+use Rattle.particle.specs.Rows.{Complete, Row, row, itemsPart}
 use Rattle.particle.specs.Empty.{emptiable}
-use Rattle.particle.specs.Runs.{Told, Noted, Measured, Run, ItemsMeasured}
+use Rattle.particle.specs.Runs.{noteOf, Noted, Measured, Run, RowFound}
+use Rattle.particle.specs.declared.measured.Found.{Found}
 use Rattle.particle.proofs.Fields.{withNotes}
 use Rattle.particle.proofs.Records.{records-cons, records-short, records-drop, length-records}
 use Rattle.particle.proofs.Trees.{complete-drop, sizeI-split, sizeI-build}
@@ -123,10 +125,10 @@ module _ {before : List ℕ} where
         let d : Complete (recordAt (drop (at - recordSize) before) ∷ records (drop at before)) = rw (from-here before h) at c in
         rw (a .trees) (d .0)
 
-    -- with the record there as it was, or with its notes where it is a group's
+    -- with the record there as it was, or with its notes where it has items
     record-measured : {after : List ℕ} (r : Record) → length after ≡ length t → take (at - recordSize) after ≡ take (at - recordSize) t → drop at after ≡ drop at t → recordAt (drop (at - recordSize) after) ≡ r
         → headOf r ≡ headOf (recordAt (drop (at - recordSize) before)) → r .count ≡ recordAt (drop (at - recordSize) before) .count
-        → (2 ≤ r .kind → Noted r (build (r ∷ records (drop at t)))) → MeasuredFrom before after (at - recordSize)
+        → (0 < r .count → Noted r (build (r ∷ records (drop at t)))) → MeasuredFrom before after (at - recordSize)
     unfolding Complete Measured decode build
     record-measured {after} r same front back here head count notes =
         let h : recordSize ≤ length (drop (at - recordSize) before) = omega (arith, long, a .within, length-drop (at - recordSize) before) in
@@ -144,15 +146,12 @@ module _ {before : List ℕ} where
           measured = rw rs (notes, a .measured);
         }
 
-    kind-is : recordAt (drop (at - recordSize) t) .kind ≡ getD t (at - recordSize + atKind) 0
-    kind-is = getD-drop (at - recordSize) t atKind 0
+    -- a record without items stays as it is
+    pub bare-measured : {count : ℕ} → count ≡ recordAt (drop (at - recordSize) t) .count → count ≤ 0 → MeasuredFrom before t (at - recordSize)
+    bare-measured c z = record-measured (recordAt (drop (at - recordSize) t)) refl refl refl refl (ap headOf record-same) count-same (λ g. absurd (omega (arith, c, z, g)))
 
-    -- a leaf's record stays as it is
-    pub leaf-measured : getD t (at - recordSize + atKind) 0 < 2 → MeasuredFrom before t (at - recordSize)
-    leaf-measured n = record-measured (recordAt (drop (at - recordSize) t)) refl refl refl refl (ap headOf record-same) count-same (λ g. absurd (omega (arith, n, g, kind-is)))
-
-    -- a group
-    module _ (g : 2 ≤ getD t (at - recordSize + atKind) 0) where
+    -- one with `count` items
+    module _ {count : ℕ} (c : count ≡ recordAt (drop (at - recordSize) t) .count) (g : 0 < count) where
       -- whose bytes are lent as `&t[at..]`
       abbrev Here : List ℕ
       Here = take (length t - (at - recordSize)) (drop (at - recordSize) t)
@@ -167,56 +166,62 @@ module _ {before : List ℕ} where
         few = omega (arith, a .few, a .same, length-drop at t);
       }
 
-      pub group-lent : ItemsMeasured Here
+      pub tree-lent : Row 1 Here
       unfolding Complete decode build countI
-      group-lent =
+      tree-lent =
           let rs : records (drop (at - recordSize) t) ≡ recordAt (drop (at - recordSize) t) ∷ records (drop at t) = from-here t record-long in
           rw here-is (record {
-            whole = record { even = omega (arith, a .whole .even, a .same, a .even, a .within, long, length-drop (at - recordSize) t); complete = rw rs (omega (arith, items-measured .row .enough), a .complete); enough = rw rs (omega arith) };
-            group = omega (arith, g, kind-is);
-            items = rw (from-items t) items-measured;
+            even = omega (arith, a .whole .even, a .same, a .even, a .within, long, length-drop (at - recordSize) t);
+            complete = rw rs (omega (arith, items-measured .row .enough), a .complete);
+            enough = rw rs (omega arith);
           })
 
-      -- of `count` items, whose bytes are lent as `&t[at + RECORD_SIZE..]`
-      module _ {count : ℕ} (c : count ≡ recordAt (drop (at - recordSize) t) .count) where
-        abbrev Rest : List ℕ
-        Rest = take (length t - (at - recordSize + recordSize)) (drop (at - recordSize + recordSize) t)
+      -- its items' bytes are lent as `&t[at + RECORD_SIZE..]`
+      abbrev Rest : List ℕ
+      Rest = take (length t - (at - recordSize + recordSize)) (drop (at - recordSize + recordSize) t)
 
-        rest-is : Rest ≡ drop at t
-        rest-is = part-is t (at - recordSize + recordSize) ∙ ap (λ (k : ℕ). drop k t) ends
+      rest-is : Rest ≡ drop at t
+      rest-is = part-is t (at - recordSize + recordSize) ∙ ap (λ (k : ℕ). drop k t) ends
 
-        pub items-lent : Run count Rest
-        items-lent = rw (rest-is, c) items-measured
+      pub items-lent : Run count Rest
+      items-lent = rw (rest-is, c) items-measured
 
-        -- they take n bytes, and e is what is noted of the group
-        module _ {n : ℕ} (takes : n ≡ recordSize * sizeI (row count Rest)) where
-          size-is : n / recordSize + 1 ≡ suc (sizeI (row (recordAt (drop (at - recordSize) t) .count) (drop at t)))
-          size-is =
-              let f : n ≡ recordSize * sizeI (row count (drop at t)) = rw rest-is at takes in
-              rw (← c) (omega (arith, f))
+      pub some-lent : 0 < recordAt Here .count
+      some-lent = rw here-is (omega (arith, c, g))
 
-          pub size-fits : n / recordSize + 1 ≤ maxRecords
-          unfolding decode
-          size-fits = omega (arith, size-is, sizeI-split (recordAt (drop (at - recordSize) t) .count) (build (records (drop at t))), sizeI-build (records (drop at t)), length-records (drop at t), length-drop at t, a .same, long, a .few)
+      -- x is what they are found to be
+      module _ {x : Found} (f : RowFound count Rest x) where
+        pub found-lent : RowFound (recordAt Here .count) (itemsPart Here) x
+        found-lent = rw (here-is, from-items t) (rw (rest-is, c) at f)
 
-          module _ (e : ℕ) (empty : Told e (emptiable (tree Here))) where
-            notes : Noted (withNotes (recordAt (drop (at - recordSize) t)) e (n / recordSize + 1)) (build (withNotes (recordAt (drop (at - recordSize) t)) e (n / recordSize + 1) ∷ records (drop at t)))
-            unfolding tree decode build takeI sizeI
-            notes =
-                let r = withNotes (recordAt (drop (at - recordSize) t)) e (n / recordSize + 1) in
-                let same : tree Here ≡ firstOf (build (r ∷ records (drop at t))) = rw (here-is, from-here t record-long) in
-                record { empty = rw same at empty; size = size-is ∙ omega arith }
+        size-is : x .len / recordSize + 1 ≡ suc (sizeI (row (recordAt (drop (at - recordSize) t) .count) (drop at t)))
+        size-is =
+            let q : x .len ≡ recordSize * sizeI (row count (drop at t)) = rw rest-is at (f .len) in
+            rw (← c) (omega (arith, q))
 
-            pub group-measured : {after : List ℕ} → after ≡ sets (set t (at - recordSize + atZero) e) (at - recordSize + atSize) (halfBytes (n / recordSize + 1)) → MeasuredFrom before after (at - recordSize)
-            group-measured s =
-                let p = at - recordSize in
-                let v = n / recordSize + 1 in
-                let q : suc (p + atSize) ≡ p + suc atSize = omega arith in
-                let one = set t (p + atZero) e in
-                let two = set one (p + atSize) (v % 256) in
-                rw s
-                (record-measured (withNotes (recordAt (drop p t)) e v) (length-sets one (p + atSize) (halfBytes v) ∙ length-set t (p + atZero) e)
-                (take-set-le p two (suc (p + atSize)) (v / 256) (omega arith) ∙ (take-set-le p one (p + atSize) (v % 256) (omega arith) ∙ take-set-le p t (p + atZero) e (omega arith)))
-                (drop-set-lt at two (suc (p + atSize)) (v / 256) (omega (arith, long)) ∙ (drop-set-lt at one (p + atSize) (v % 256) (omega (arith, long)) ∙ drop-set-lt at t (p + atZero) e (omega (arith, long))))
-                (ap recordAt (ap (λ (i : ℕ). drop p (set two i (v / 256))) q ∙ (drop-set-add p two (suc atSize) (v / 256) ∙ ap (λ (l : List ℕ). set l (suc atSize) (v / 256)) (drop-set-add p one atSize (v % 256) ∙ ap (λ (l : List ℕ). set l atSize (v % 256)) (drop-set-add p t atZero e)))) ∙ notes-stored (drop p t) e v record-long)
-                (ap headOf record-same) count-same (λ _. notes))
+        pub size-fits : x .len / recordSize + 1 ≤ maxRecords
+        unfolding decode
+        size-fits = omega (arith, size-is, sizeI-split (recordAt (drop (at - recordSize) t) .count) (build (records (drop at t))), sizeI-build (records (drop at t)), length-records (drop at t), length-drop at t, a .same, long, a .few)
+
+        -- e is what is noted
+        module _ {e : ℕ} {empty : Bool} (q : e ≡ noteOf empty) (is : empty ≡ emptiable (tree Here)) where
+          notes : Noted (withNotes (recordAt (drop (at - recordSize) t)) e (x .len / recordSize + 1)) (build (withNotes (recordAt (drop (at - recordSize) t)) e (x .len / recordSize + 1) ∷ records (drop at t)))
+          unfolding tree decode build takeI sizeI
+          notes =
+              let r = withNotes (recordAt (drop (at - recordSize) t)) e (x .len / recordSize + 1) in
+              let same : tree Here ≡ firstOf (build (r ∷ records (drop at t))) = rw (here-is, from-here t record-long) in
+              record { empty = q ∙ ap noteOf (is ∙ ap emptiable same); size = size-is ∙ omega arith }
+
+          pub noted-measured : {after : List ℕ} → after ≡ sets (set t (at - recordSize + atZero) e) (at - recordSize + atSize) (halfBytes (x .len / recordSize + 1)) → MeasuredFrom before after (at - recordSize)
+          noted-measured s =
+              let p = at - recordSize in
+              let v = x .len / recordSize + 1 in
+              let q : suc (p + atSize) ≡ p + suc atSize = omega arith in
+              let one = set t (p + atZero) e in
+              let two = set one (p + atSize) (v % 256) in
+              rw s
+              (record-measured (withNotes (recordAt (drop p t)) e v) (length-sets one (p + atSize) (halfBytes v) ∙ length-set t (p + atZero) e)
+              (take-set-le p two (suc (p + atSize)) (v / 256) (omega arith) ∙ (take-set-le p one (p + atSize) (v % 256) (omega arith) ∙ take-set-le p t (p + atZero) e (omega arith)))
+              (drop-set-lt at two (suc (p + atSize)) (v / 256) (omega (arith, long)) ∙ (drop-set-lt at one (p + atSize) (v % 256) (omega (arith, long)) ∙ drop-set-lt at t (p + atZero) e (omega (arith, long))))
+              (ap recordAt (ap (λ (i : ℕ). drop p (set two i (v / 256))) q ∙ (drop-set-add p two (suc atSize) (v / 256) ∙ ap (λ (l : List ℕ). set l (suc atSize) (v / 256)) (drop-set-add p one atSize (v % 256) ∙ ap (λ (l : List ℕ). set l atSize (v % 256)) (drop-set-add p t atZero e)))) ∙ notes-stored (drop p t) e v record-long)
+              (ap headOf record-same) count-same (λ _. notes))

@@ -1,6 +1,6 @@
--- The laws of measured trees: fewer of them, their items, the trees after the first, and what a group's record tells. Assumes nothing.
+-- The laws of measured trees: fewer of them, their items, the trees after the first, and what the first one's record tells. Assumes nothing.
 use mathlib.Core.Bool.{Bool, true, false, false≢true}
-use mathlib.Core.Path.{_≡_, refl, ap, _∙_}
+use mathlib.Core.Path.{_≡_, refl, ap, sym, _∙_}
 use mathlib.Core.List.{List, [], _∷_}
 use Prim.Native.Nat.{ℕ, zero, suc, _+_, _*_, _-_, _≤_, _<_}
 use native.Mathlib.Omega.{arith}
@@ -10,10 +10,10 @@ use Rattle.particle.specs.Record.{recordSize, maxRecords, recordAt}
 use Rattle.particle.specs.Tree.{takeI, sizeI, build, records, decode, tree}
 use Rattle.particle.specs.Rows.{Row, row, runSize, itemsPart, laterPart}
 use Rattle.particle.specs.Empty.{emptiable}
-use Rattle.particle.specs.Runs.{Told, Noted, Measured, Run, RunIf, ItemsMeasured}
+use Rattle.particle.specs.Runs.{noteOf, Noted, Measured, Run, RunIf}
 use Rattle.particle.proofs.Records.{records-cons, records-drop, length-records}
 use Rattle.particle.proofs.Trees.{countI-le, sizeI-build}
-use Rattle.particle.proofs.Laws.{row-le, row-sizes, run-is, run-within, some-bytes, items-row, later-row}
+use Rattle.particle.proofs.Laws.{row-le, row-sizes, run-is, run-within, some-bytes, bare-run, items-row, later-row}
 
 measured-drop : (k : ℕ) (rs : List Record) → Measured rs → Measured (drop k rs)
 unfolding Measured
@@ -41,38 +41,32 @@ module _ {n : ℕ} {t : List ℕ} (w : Run (suc n) t) where
   unfolding runSize
   later-run = record { row = later-row (w .row); measured = measured-from (sizeI (row 1 t)) t (w .measured); few = omega (arith, w .few, length-drop (runSize t) t) }
 
-  -- what a group's record tells of its tree
-  group-noted : 2 ≤ recordAt t .kind → Noted (recordAt t) (decode t)
+  -- what a record that has items tells of its tree
+  noted : 0 < recordAt t .count → Noted (recordAt t) (decode t)
   unfolding Measured decode
-  group-noted g =
+  noted g =
       let m : Measured (recordAt t ∷ records (itemsPart t)) = rw (records-cons t (some-bytes (w .row))) at (w .measured) in
       rw (records-cons t (some-bytes (w .row))) (m .0 g)
 
   -- where the next tree starts
-  pub group-run : 2 ≤ recordAt t .kind → recordSize * recordAt t .size ≡ runSize t
+  pub noted-end : 0 < recordAt t .count → recordSize * recordAt t .size ≡ runSize t
   unfolding runSize
-  group-run g = ap (λ (k : ℕ). recordSize * k) (group-noted g .size)
+  noted-end g = ap (λ (k : ℕ). recordSize * k) (noted g .size)
 
   -- whether it is emptiable
-  group-empty : 2 ≤ recordAt t .kind → Told (recordAt t .zero) (emptiable (tree t))
+  noted-empty : 0 < recordAt t .count → recordAt t .zero ≡ noteOf (emptiable (tree t))
   unfolding tree
-  group-empty g = group-noted g .empty
+  noted-empty g = noted g .empty
 
 -- r is the first tree's record
-pub group-told : {t : List ℕ} {r : Record} → Run 1 t → r ≡ recordAt t → 2 ≤ r .kind → Told (r .zero) (emptiable (tree t))
-group-told w e g = rw e (group-empty w (rw e at g))
+pub bare-later : {t : List ℕ} {r : Record} → Run 1 t → r ≡ recordAt t → r .count ≡ 0 → {s : List ℕ} → s ≡ itemsPart t → s ≡ laterPart t
+bare-later {t} w e z i = i ∙ ap (λ (k : ℕ). drop k t) (sym (bare-run (w .row) (rw e at z)))
 
--- the same of a group whose items are measured; s are the items
-module _ {t : List ℕ} {r : Record} (w : ItemsMeasured t) (e : r ≡ recordAt t) where
-  pub group-kind : 2 ≤ r .kind
-  group-kind = rw e (w .group)
+pub told-end : {t : List ℕ} {r : Record} → Run 1 t → r ≡ recordAt t → (r .count ≡ 0 → ⊥) → recordSize * r .size ≡ runSize t
+told-end {t} {r} w e g = rw e (noted-end w (let h : 0 < r .count = omega arith in rw e at h))
 
-  module _ {s : List ℕ} (p : s ≡ itemsPart t) where
-    pub group-row : Row (r .count) s
-    group-row = rw (e, p) (w .items .row)
-
-    pub group-if : {k : Bool} → RunIf k (r .count) s
-    group-if = record { run = λ _. rw (e, p) (w .items) }
+pub told : {t : List ℕ} {r : Record} → Run 1 t → r ≡ recordAt t → (r .count ≡ 0 → ⊥) → r .zero ≡ noteOf (emptiable (tree t))
+told {t} {r} w e g = rw e (noted-empty w (let h : 0 < r .count = omega arith in rw e at h))
 
 -- more than m trees
 module _ {m n : ℕ} {t : List ℕ} (w : Run n t) (some : m < n) where
@@ -98,10 +92,6 @@ module _ {m : ℕ} {k : Bool} {n : ℕ} {t : List ℕ} (w : RunIf k n t) (some :
 
   pub rest-if : {s : List ℕ} → s ≡ laterPart t → RunIf k (n - 1) s
   rest-if p = record { run = λ e. rest-run (w .run e) some p }
-
--- they are
-pub all-if : {n : ℕ} {t : List ℕ} → Run n t → {k : Bool} → RunIf k n t
-all-if w = record { run = λ _. w }
 
 -- nothing says so
 pub none-if : {n : ℕ} {t : List ℕ} → RunIf false n t

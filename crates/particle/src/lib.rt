@@ -16,6 +16,7 @@ pub use empty::emptiable;
 pub use measured::after;
 pub use measured::measure;
 pub use measured::next;
+pub use measured::told_emptiable;
 
 // The length of a record in bytes.
 pub const RECORD_SIZE: usize = 16;
@@ -39,11 +40,6 @@ const AT_MAX: usize = 12;
 
 // A tree has at most so many records.
 pub const MAX_RECORDS: usize = 1000;
-
-// The notes of a measured tree: that a group is emptiable, and that it isn't.
-const EMPTIABLE: u8 = 1;
-
-const NOT_EMPTIABLE: u8 = 2;
 
 pub const ELEMENT: u8 = 0;
 

@@ -1,42 +1,44 @@
-// Measured trees: a group's record has, in its three zero bytes, how many records the group's tree takes, and maybe whether it is emptiable.
+// Measured trees: a record that has items tells, in its three zero bytes, whether its tree is emptiable and how many records it takes.
 // The tree is the same; what follows it is found, and emptiness is told, without reading its records.
 ghost use mathlib.Core.Path.{_≡_};
-ghost use Prim.Native.Nat.{_*_, _≤_};
+ghost use Prim.Native.Nat.{_*_, _≤_, _<_};
 ghost use lib.ListN.{length};
-ghost use Rattle.particle.specs.Record.{recordSize, maxRecords};
-ghost use Rattle.particle.specs.Tree.{sizeI, tree};
-ghost use Rattle.particle.specs.Rows.{Row, row, laterPart};
+ghost use Rattle.particle.specs.Record.{recordSize, maxRecords, recordAt};
+ghost use Rattle.particle.specs.Tree.{tree};
+ghost use Rattle.particle.specs.Rows.{Row, itemsPart, laterPart};
 ghost use Rattle.particle.specs.Empty.{emptiable};
-ghost use Rattle.particle.specs.Runs.{noteOf, Told, Run, RunIf, ItemsMeasured};
-use crate::AT_KIND;
+ghost use Rattle.particle.specs.Runs.{noteOf, Run, RunIf, RowFound};
 use crate::AT_SIZE;
 use crate::AT_ZERO;
 use crate::CHOICE;
-use crate::EMPTIABLE;
-use crate::NOT_EMPTIABLE;
 use crate::RECORD_SIZE;
 use crate::SEQUENCE;
 use crate::count_at;
-use crate::empty::items_emptiable;
 use crate::items;
 use crate::later;
-use crate::read_u16;
 use crate::record_at;
 use crate::write_u16;
 
-// A group whose items take fewer bytes is small: whether it is emptiable is sooner asked than noted, but for one of a chain, whose one item
-// may be of the chain too.
-const NOTED_FROM: usize = 16 * RECORD_SIZE;
+// What is noted of a tree that is emptiable; of any other it is 0.
+const EMPTIABLE: u8 = 1;
+
+// What the trees of a row are found to be: how many bytes they take, and whether each, and whether one, is emptiable.
+struct Found {
+    len: usize,
+    every: bool,
+    some: bool,
+}
 
 // The part of t that starts after the first tree.
 pub fn next(t: &[u8]) -> &[u8]
     requires { ⌜ Run 1 (now t) ⌝ }
     ensures { λ r. ⌜ now r ≡ laterPart (now (t .entry)) ⌝ }
 {
-    if t[AT_KIND] < SEQUENCE {
-        return later(t);
+    let r = record_at(t);
+    if r.count == 0 {
+        return items(t);
     }
-    let n = RECORD_SIZE * (read_u16(t, AT_SIZE) as usize);
+    let n = RECORD_SIZE * (r.size as usize);
     &t[n..]
 }
 
@@ -52,67 +54,64 @@ pub fn after(t: &[u8], measured: bool) -> &[u8]
     later(t)
 }
 
-// How many bytes the first n trees of t take.
-fn row_len(t: &[u8], n: usize) -> usize
-    requires { ⌜ Run n (now t) ⌝ }
-    ensures { λ r. ⌜ r ≡ recordSize * sizeI (row n (now (t .entry))) ⌝ }
+// Whether the first tree of t is emptiable: its note tells it. A record without items has none: a leaf's minimum tells it, and a group
+// without items is emptiable.
+pub fn told_emptiable(t: &[u8]) -> bool
+    requires { ⌜ Run 1 (now t) ⌝ }
+    ensures { λ r. ⌜ r ≡ emptiable (tree (now (t .entry))) ⌝ }
 {
+    let r = record_at(t);
+    if r.count == 0 {
+        return (r.min == 0) | (r.kind >= SEQUENCE);
+    }
+    r.zero == EMPTIABLE
+}
+
+// What the first n trees of t are found to be, in one walk over them.
+fn walk(t: &[u8], n: usize) -> Found
+    requires { ⌜ Run n (now t) ⌝ }
+    ensures { λ r. ⌜ RowFound n (now (t .entry)) r ⌝ }
+{
+    let mut every = true;
+    let mut some = false;
     let mut rest = t;
     let mut left = n;
     while 0 < left {
+        let empty = told_emptiable(rest);
+        every = every & empty;
+        some = some | empty;
         let following = next(rest);
         rest = following;
         left -= 1;
     }
-    t.len() - rest.len()
+    Found {
+        len: t.len() - rest.len(),
+        every: every,
+        some: some,
+    }
+}
+
+// Whether the first tree of t, which has items, is emptiable, by what its items are found to be.
+fn found_emptiable(t: &[u8], x: Found) -> bool
+    requires { ⌜ Row 1 (now t) ⌝ }
+    requires { ⌜ 0 < recordAt (now t) .count ⌝ }
+    requires { ⌜ RowFound (recordAt (now t) .count) (itemsPart (now t)) x ⌝ }
+    ensures { λ r. ⌜ r ≡ emptiable (tree (now (t .entry))) ⌝ }
+{
+    let r = record_at(t);
+    let items = if r.kind == CHOICE { x.some } else { x.every };
+    (r.min == 0) | ((r.kind >= SEQUENCE) & items)
 }
 
 // What is noted where `empty` tells whether a tree is emptiable.
 fn noted(empty: bool) -> u8
     ensures { λ r. ⌜ r ≡ noteOf empty ⌝ }
 {
-    if empty { EMPTIABLE } else { NOT_EMPTIABLE }
+    if empty { EMPTIABLE } else { 0 }
 }
 
-// Whether the group that t starts with is emptiable; it is not measured itself.
-fn group_emptiable(t: &[u8]) -> bool
-    requires { ⌜ ItemsMeasured (now t) ⌝ }
-    ensures { λ r. ⌜ r ≡ emptiable (tree (now (t .entry))) ⌝ }
-{
-    let r = record_at(t);
-    if r.min == 0 {
-        return true;
-    }
-    let n = r.count as usize;
-    if r.kind == CHOICE {
-        if r.count == 0 {
-            return true;
-        }
-        return items_emptiable(items(t), n, false, true);
-    }
-    items_emptiable(items(t), n, true, true)
-}
-
-// What is noted of the group that t starts with, whose `count` items take n bytes: 0, which tells nothing, of a small one that has not
-// just one item, and without `noting`.
-fn note(noting: bool, count: usize, n: usize, t: &[u8]) -> u8
-    requires { ⌜ ItemsMeasured (now t) ⌝ }
-    ensures { λ r. ⌜ Told r (emptiable (tree (now (t .entry)))) ⌝ }
-{
-    if !noting {
-        return 0;
-    }
-    if n < NOTED_FROM {
-        if count != 1 {
-            return 0;
-        }
-    }
-    noted(group_emptiable(t))
-}
-
-// Measures the tree of t: from the last record to the first, so that a group's items are measured before it. With `noting`, it is noted of
-// each group that isn't small whether it is emptiable.
-pub fn measure(t: &mut [u8], noting: bool)
+// Measures the tree of t: from the last record to the first, so that the items of a record are measured before it.
+pub fn measure(t: &mut [u8])
     requires { ⌜ Row 1 (now t) ⌝ }
     requires { ⌜ length (now t) ≤ recordSize * maxRecords ⌝ }
     ensures { λ _. ⌜ Run 1 (now (t .exit)) × (tree (now (t .exit)) ≡ tree (now (t .entry))) ⌝ }
@@ -120,12 +119,11 @@ pub fn measure(t: &mut [u8], noting: bool)
     let mut at = t.len();
     while 0 < at {
         at -= RECORD_SIZE;
-        if t[at + AT_KIND] >= SEQUENCE {
-            let count = count_at(t, at);
-            let n = row_len(&t[at + RECORD_SIZE..], count);
-            let told = note(noting, count, n, &t[at..]);
-            t[at + AT_ZERO] = told;
-            write_u16(t, at + AT_SIZE, (n / RECORD_SIZE + 1) as u16);
+        let count = count_at(t, at);
+        if 0 < count {
+            let x = walk(&t[at + RECORD_SIZE..], count);
+            t[at + AT_ZERO] = noted(found_emptiable(&t[at..], x));
+            write_u16(t, at + AT_SIZE, (x.len / RECORD_SIZE + 1) as u16);
         }
     }
 }

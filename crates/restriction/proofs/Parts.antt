@@ -35,9 +35,6 @@ module _ {n : ℕ} {t : List ℕ} (w : Run n t) (some : 0 < n) where
   pub first-tree : Run 1 t
   first-tree = run-le some w
 
-  pub first-row : Row 1 t
-  first-row = first-tree .row
-
   from-suc : Run (suc (n - 1)) t
   from-suc = run-le (omega arith) w
 

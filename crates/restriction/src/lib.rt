@@ -155,7 +155,7 @@ fn recurse_ordered(
                     if lax {
                         continue 'base;
                     }
-                    if particle::emptiable(b, true) {
+                    if particle::told_emptiable(b) {
                         continue 'base;
                     }
                     return verdicts::definite(Verdict::Violation(r), seen);

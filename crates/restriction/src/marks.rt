@@ -93,7 +93,7 @@ pub fn walk_on(
             if lax {
                 return Standing::On;
             }
-            if particle::emptiable(b, true) {
+            if particle::told_emptiable(b) {
                 return Standing::On;
             }
             Standing::Ended(Verdict::Violation(r))

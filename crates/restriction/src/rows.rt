@@ -22,7 +22,7 @@ pub fn left_over(bs: &[u8], bn: usize) -> Verdict
     let mut bitems = bs;
     let mut j = bn;
     while 0 < j {
-        if !particle::emptiable(bitems, true) {
+        if !particle::told_emptiable(bitems) {
             return Verdict::Violation(Reason::RequiredMissing);
         }
         let next = particle::next(bitems);

@@ -3,7 +3,6 @@ use mathlib.Core.Bool.{Bool}
 use mathlib.Core.Path.{_≡_, sym, _∙_}
 use borrow.Author.Needs.{needs}
 use Rattle.entries.proofs.Alone.{turned-away, taken, whole}
-use Rattle.particle.proofs.Runs.{none-if}
 use Rattle.entries.proofs.emptiable.Statement.{statement}
 use Rattle.entries.proofs.emptiable.Tie as tie
 
@@ -18,7 +17,7 @@ emptiable-spec =
     (λ c κs. search needs)
     (λ c. search needs)
     (λ c. search needs)
-    (λ c κs. (search whole, search none-if))
+    (λ c κs. search whole)
     (λ c. search turned-away)
     (λ c. search (taken, tested))
     (λ c. search (taken, tested)))

@@ -1,6 +1,5 @@
 -- `marking::early_pass` meets its contract. Assumes nothing.
 use borrow.Author.Needs.{needs}
-use Rattle.particle.proofs.Runs.{none-if}
 use Rattle.marking.proofs.Marking.{not-zero, both-zero, if-emptiable}
 use Rattle.marking.proofs.early_pass.Statement.{statement}
 use Rattle.marking.proofs.early_pass.Tie as tie
@@ -13,5 +12,5 @@ early-pass-spec =
     (λ c. search not-zero)
     (λ c κs. search needs)
     (λ c. search both-zero)
-    (λ c κs. (search needs, search none-if))
+    (λ c κs. search needs)
     (λ c. search if-emptiable))

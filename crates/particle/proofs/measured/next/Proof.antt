@@ -1,30 +1,28 @@
 -- `measured::next` meets its contract. Assumes nothing.
-use mathlib.Core.Path.{_≡_, ap, _∙_}
-use Prim.Native.Nat.{ℕ, _*_}
-use native.Mathlib.Omega.{arith}
+use mathlib.Core.Path.{_≡_}
+use Prim.Native.Nat.{_*_}
 use borrow.Author.Needs.{needs}
 use Rattle.particle.specs.Record.{recordSize}
 use Rattle.particle.specs.Rows.{runSize}
 use Rattle.particle.proofs.Laws.{some-bytes, end-within, later-is}
-use Rattle.particle.proofs.Runs.{group-run}
+use Rattle.particle.proofs.Runs.{bare-later, told-end}
 use Rattle.particle.proofs.measured.next.Statement.{statement}
 use Rattle.particle.proofs.measured.next.Tie as tie
 
--- a group tells where it ends
-abbrev Group : Type 0
-Group = tie.After-read-u16
+-- a record that has items tells where its tree ends
+abbrev Items : Type 0
+Items = tie.After-struct-known2
 
-end : (c : Group) → let t = c .before .before .before .before .args .t .now in recordSize * c .read-u16 .result ≡ runSize t
-end c = ap (λ (n : ℕ). recordSize * n) (c .read-u16 .ensures) ∙ group-run (c .before .before .before .before .pre) (omega arith)
+end : (c : Items) → let read = c .before .before .before in recordSize * read .record-at .result .size ≡ runSize (read .before .before .args .t .now)
+end c = search told-end
 
 pub next-spec : {M : Type 1} → statement M
 next-spec =
     tie.close
     (tie.spec
-    (λ c. omega (arith, some-bytes (c .before .before .pre .row)))
+    (λ c κs. some-bytes (c .before .pre .row))
     (λ c κs. search needs)
-    (λ c. search needs)
-    (λ c κs. omega (arith, some-bytes (c .before .before .before .pre .row)))
+    (λ c. search bare-later)
     (λ c. search needs)
     (λ c. search needs)
     (λ c. end-within _ (end c))

@@ -2,7 +2,7 @@
 use Prim.Native.Nat.{ℕ, _<_}
 use borrow.Fn.Kinds.{In}
 use borrow.Fn.PlainCycle.{Measures, is, falls, and}
-use Rattle.particle.proofs.emptiable.Reads as emptiable-reads
+use Rattle.particle.proofs.told_emptiable.Reads as told-emptiable-reads
 use Rattle.particle.proofs.items.Reads as items-reads
 use Rattle.particle.proofs.next.Reads as next-reads
 use Rattle.particle.proofs.range_ok.Reads as range-ok-reads
@@ -203,7 +203,7 @@ module _ (t : ℕ) where
   group-wildcard-calls = (total-within-reads.Asked, total-within-reads.Learnt, next-reads.Asked, next-reads.Learnt, by-kinds-below, by-kinds.Post, definite-reads.Asked, definite-reads.Learnt)
 
   abbrev pub recurse-ordered-calls : recurse-ordered-lts.Claims
-  recurse-ordered-calls = (next-reads.Asked, next-reads.Learnt, restrict-below, restrict.Post, emptiable-reads.Asked, emptiable-reads.Learnt, definite-reads.Asked, definite-reads.Learnt, left-over-reads.Asked, left-over-reads.Learnt)
+  recurse-ordered-calls = (next-reads.Asked, next-reads.Learnt, restrict-below, restrict.Post, told-emptiable-reads.Asked, told-emptiable-reads.Learnt, definite-reads.Asked, definite-reads.Learnt, left-over-reads.Asked, left-over-reads.Learnt)
 
   abbrev pub restrict-calls : restrict-lts.Claims
   restrict-calls = (record-at-reads.Asked, record-at-reads.Learnt, first-reads.Asked, first-reads.Learnt, by-kinds-below, by-kinds.Post)

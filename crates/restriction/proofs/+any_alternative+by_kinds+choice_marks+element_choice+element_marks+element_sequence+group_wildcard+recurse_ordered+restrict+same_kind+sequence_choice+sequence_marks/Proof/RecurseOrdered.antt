@@ -2,9 +2,8 @@
 use Prim.Native.Nat.{ℕ}
 use borrow.Author.Needs.{needs}
 use native.Mathlib.Omega.{arith}
-use Rattle.particle.proofs.Runs.{all-if}
 use Rattle.restriction.specs.Views.{judge}
-use Rattle.restriction.proofs.Parts.{first-tree, first-row}
+use Rattle.restriction.proofs.Parts.{first-tree}
 use Rattle.restriction.proofs.OrderedWalk.{Between, Trying, walk-start, walk-try, lax-end, strict-end, used-up, both-advance, seen-advance, skip-lax, skip-emptiable, item-fails}
 use Rattle.restriction.proofs.recurse_ordered.Reads as reads
 use Rattle.restriction.proofs.+any_alternative+by_kinds+choice_marks+element_choice+element_marks+element_sequence+group_wildcard+recurse_ordered+restrict+same_kind+sequence_choice+sequence_marks.Lts-recurse_ordered as lts
@@ -45,7 +44,7 @@ recurse-ordered-closed t =
     (λ c. search needs)
     (λ c. omega arith)
     (λ c. search skip-lax)
-    (λ c κs. (search first-row, search (all-if, first-tree)))
+    (λ c κs. search first-tree)
     (λ c. omega arith)
     (λ c. search skip-emptiable)
     (λ c κs. search needs)

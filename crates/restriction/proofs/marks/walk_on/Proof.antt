@@ -1,6 +1,5 @@
 -- `marks::walk_on` meets its contract: an ended walk stays, another steps. Assumes nothing.
 use borrow.Author.Needs.{needs}
-use Rattle.particle.proofs.Runs.{all-if}
 use Rattle.restriction.proofs.Standing.{lax-passes, over-passes, open-ends, lax-skips, emptiable-skips, required-ends}
 use Rattle.restriction.proofs.marks.walk_on.Statement.{statement}
 use Rattle.restriction.proofs.marks.walk_on.Tie as tie
@@ -18,7 +17,7 @@ walk-on-spec =
     (λ c. search needs)
     (λ c. search needs)
     (λ c. search lax-skips)
-    (λ c κs. (search needs, search all-if))
+    (λ c κs. search needs)
     (λ c. search emptiable-skips)
     (λ c. search over-passes)
     (λ c. search open-ends)

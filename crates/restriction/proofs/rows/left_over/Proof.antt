@@ -1,7 +1,6 @@
 -- `restriction::left_over` meets its contract. Assumes nothing.
 use native.Mathlib.Omega.{arith}
-use Rattle.particle.proofs.Runs.{all-if}
-use Rattle.restriction.proofs.Parts.{first-tree, first-row}
+use Rattle.restriction.proofs.Parts.{first-tree}
 use Rattle.restriction.proofs.LeftOver.{LeftOver, left-start, left-end, left-emptiable, left-fails}
 use Rattle.restriction.proofs.rows.left_over.Statement.{statement}
 use Rattle.restriction.proofs.rows.left_over.Tie as tie
@@ -19,7 +18,7 @@ left-over-spec =
     Inv-loop
     μ-loop
     (λ c. search left-start)
-    (λ c κs. (search first-row, search (all-if, first-tree)))
+    (λ c κs. search first-tree)
     (λ c. search left-fails)
     (λ c κs. search first-tree)
     (λ c. omega arith)
