@@ -19,10 +19,9 @@ ghost use Rattle.rules.specs.Walk.{recurseOrdered, alternatives, eachMember};
 ghost use Rattle.rules.specs.Rule.{timesCount};
 ghost use Rattle.verdicts.specs.Reasons.{reasonNumber, markOf};
 ghost use Rattle.restriction.specs.Views.{onceHead, asOnce, eachOnce, asAny, judge, rangeReason};
-ghost use Rattle.restriction.specs.Marks.{BothMarks, sequenceOnce, sequenceMark, choiceOnce, choiceMark};
-use marks::Marks;
-use marks::Standing;
-use pairs::base_once;
+ghost use Rattle.restriction.specs.Marks.{sequenceMark, choiceMark};
+use marks::choice_marks;
+use marks::sequence_marks;
 use pairs::base_range;
 use pairs::counts_once;
 use pairs::derived_range;
@@ -285,137 +284,6 @@ fn element_choice(
     }
     let marks = choice_marks(d, leaf, p, bs, bn, q, leaves, tables, n);
     marks.own
-}
-
-// Both marks of the element d against the first tree of b: counting once, and with its own pair p.
-fn element_marks(
-    d: &[u8],
-    leaf: u8,
-    p: Occurs,
-    b: &[u8],
-    leaves: &[u8],
-    tables: &[u8],
-    n: u8,
-) -> Marks
-    requires { ⌜ Run 1 (now d) ⌝ }
-    requires { ⌜ tree (now d) .head ≡ element leaf p ⌝ }
-    requires { ⌜ Run 1 (now b) ⌝ }
-    ensures { λ r. ⌜ BothMarks r (judge (now (leaves .entry)) (now (tables .entry)) n (asOnce true (tree (now (d .entry)))) (tree (now (b .entry)))) (judge (now (leaves .entry)) (now (tables .entry)) n (tree (now (d .entry))) (tree (now (b .entry)))) ⌝ }
-{
-    let br = particle::record_at(b);
-    let q = base_range(br, false);
-    let bs = particle::items(b);
-    let bn = br.count as usize;
-    match kind_of(br) {
-        0 => marks::with_element(leaf, p, br.leaf, q, tables, n),
-        1 => marks::with_wildcard(leaf, p, br.leaf, q, tables, n),
-        2 => sequence_marks(d, leaf, p, bs, bn, q, leaves, tables, n),
-        3 => choice_marks(d, leaf, p, bs, bn, q, leaves, tables, n),
-        _ => Marks {
-            once: Verdict::Unknown,
-            own: Verdict::Unknown,
-        },
-    }
-}
-
-// The same against a sequence: two walks over its items, of the element once and of the element with its own pair. The first of them is
-// the mark of the element that counts once, and the wrapped reading of the other.
-fn sequence_marks(
-    d: &[u8],
-    leaf: u8,
-    p: Occurs,
-    bs: &[u8],
-    bn: usize,
-    q: Occurs,
-    leaves: &[u8],
-    tables: &[u8],
-    n: u8,
-) -> Marks
-    requires { ⌜ Run 1 (now d) ⌝ }
-    requires { ⌜ tree (now d) .head ≡ element leaf p ⌝ }
-    requires { ⌜ Run bn (now bs) ⌝ }
-    ensures { λ r. ⌜ BothMarks r (sequenceOnce (judge (now (leaves .entry)) (now (tables .entry)) n) q (asOnce true (tree (now (d .entry)))) (row bn (now (bs .entry)))) (sequenceMark (judge (now (leaves .entry)) (now (tables .entry)) n) p q (asOnce true (tree (now (d .entry)))) (tree (now (d .entry))) (row bn (now (bs .entry)))) ⌝ }
-{
-    let sequence_once = base_once(q, Reason::SequenceRequired);
-    let Verdict::Ok = sequence_once else {
-        let wrapped = same_kind(d, 1, true, p, bs, bn, q, false, leaves, tables, n);
-        return marks::base_fails(Reason::SequenceRange, wrapped, sequence_once);
-    };
-    let within = particle::range_ok(p, q);
-    let mut once = Standing::On;
-    let mut own = Standing::On;
-    let mut bitems = bs;
-    let mut left = bn;
-    while 0 < left {
-        let b = bitems;
-        let next = particle::next(b);
-        bitems = next;
-        left -= 1;
-        let item = element_marks(d, leaf, p, b, leaves, tables, n);
-        let item_once = item.once;
-        let item_own = item.own;
-        once = marks::walk_on(once, item_once, false, b, bitems, left);
-        own = marks::walk_on(own, item_own, false, b, bitems, left);
-        if marks::settled(within, once, own) {
-            return marks::walked(within, once, own);
-        }
-    }
-    marks::walked(within, once, own)
-}
-
-// The same against a choice. The wrapped reading is the lax walk, which ends at the first alternative that does not fail; the other
-// reading, and the element that counts once, go on after an undecided one.
-fn choice_marks(
-    d: &[u8],
-    leaf: u8,
-    p: Occurs,
-    bs: &[u8],
-    bn: usize,
-    q: Occurs,
-    leaves: &[u8],
-    tables: &[u8],
-    n: u8,
-) -> Marks
-    requires { ⌜ Run 1 (now d) ⌝ }
-    requires { ⌜ tree (now d) .head ≡ element leaf p ⌝ }
-    requires { ⌜ Run bn (now bs) ⌝ }
-    ensures { λ r. ⌜ BothMarks r (choiceOnce (judge (now (leaves .entry)) (now (tables .entry)) n) q (asOnce true (tree (now (d .entry)))) (row bn (now (bs .entry)))) (choiceMark (judge (now (leaves .entry)) (now (tables .entry)) n) p q (asOnce true (tree (now (d .entry)))) (tree (now (d .entry))) (row bn (now (bs .entry)))) ⌝ }
-{
-    let choice_once = base_once(q, Reason::ChoiceRequired);
-    let Verdict::Ok = choice_once else {
-        let wrapped = same_kind(d, 1, true, p, bs, bn, q, true, leaves, tables, n);
-        return marks::base_fails(Reason::ChoiceRange, wrapped, choice_once);
-    };
-    let within = particle::range_ok(p, q);
-    let mut first = Standing::On;
-    let mut once = Verdict::Violation(Reason::NotAllowed);
-    let mut own = Verdict::Violation(Reason::NoAlternative);
-    let mut bitems = bs;
-    let mut left = bn;
-    while 0 < left {
-        let b = bitems;
-        let next = particle::next(b);
-        bitems = next;
-        left -= 1;
-        let item = element_marks(d, leaf, p, b, leaves, tables, n);
-        let item_once = item.once;
-        let item_own = item.own;
-        first = marks::walk_on(first, item_once, true, b, bitems, left);
-        once = verdicts::combine_readings(once, item_once);
-        own = verdicts::combine_readings(own, item_own);
-        if let Verdict::Ok = once {
-            if let Verdict::Ok = marks::read(within, Reason::ChoiceRange, first, own) {
-                return Marks {
-                    once: Verdict::Ok,
-                    own: Verdict::Ok,
-                };
-            }
-        }
-    }
-    Marks {
-        once: once,
-        own: marks::read(within, Reason::ChoiceRange, first, own),
-    }
 }
 
 // Group against wildcard: total range, then each member against the wildcard with pair (0, unbounded).

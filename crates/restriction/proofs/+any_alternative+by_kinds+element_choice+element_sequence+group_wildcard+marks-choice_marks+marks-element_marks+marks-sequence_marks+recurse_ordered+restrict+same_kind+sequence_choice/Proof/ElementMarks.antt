@@ -10,9 +10,9 @@ use Rattle.particle.proofs.Laws.{some-bytes}
 use Rattle.restriction.proofs.Parts.{weight}
 use Rattle.restriction.proofs.Arms.{side-items, side-shorter}
 use Rattle.restriction.proofs.ElementArms.{Against, element-both, wildcard-both, sequence-both, choice-both, all-both}
-use Rattle.restriction.proofs.element_marks.Reads as reads
-use Rattle.restriction.proofs.+any_alternative+by_kinds+choice_marks+element_choice+element_marks+element_sequence+group_wildcard+recurse_ordered+restrict+same_kind+sequence_choice+sequence_marks.Lts-element_marks as lts
-use Rattle.restriction.proofs.+any_alternative+by_kinds+choice_marks+element_choice+element_marks+element_sequence+group_wildcard+recurse_ordered+restrict+same_kind+sequence_choice+sequence_marks.Proof.Base.{element-marks-at, element-marks-calls}
+use Rattle.restriction.proofs.marks.element_marks.Reads as reads
+use Rattle.restriction.proofs.+any_alternative+by_kinds+element_choice+element_sequence+group_wildcard+marks-choice_marks+marks-element_marks+marks-sequence_marks+recurse_ordered+restrict+same_kind+sequence_choice.Lts-marks-element_marks as lts
+use Rattle.restriction.proofs.+any_alternative+by_kinds+element_choice+element_sequence+group_wildcard+marks-choice_marks+marks-element_marks+marks-sequence_marks+recurse_ordered+restrict+same_kind+sequence_choice.Proof.Base.{element-marks-at, element-marks-calls}
 
 module _ (t : ℕ) (c : lts.After-kind-of (element-marks-calls t) (element-marks-at t) reads.Post) where
   -- the places above the match at which something of the base has been read

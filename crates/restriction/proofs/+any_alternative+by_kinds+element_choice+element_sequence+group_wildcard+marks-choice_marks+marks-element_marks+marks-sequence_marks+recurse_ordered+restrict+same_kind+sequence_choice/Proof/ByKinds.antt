@@ -8,8 +8,8 @@ use Rattle.particle.proofs.Runs.{run-few}
 use Rattle.rules.specs.Rule.{rule}
 use Rattle.restriction.proofs.Arms.{Sides, to-readings, to-derived, to-members, to-both, arm, other-arm, element-sequence-arm, element-choice-arm, sequence-element-arm, choice-element-arm, sequences-arm, choices-arm, group-wildcard-arm, sequence-choice-arm}
 use Rattle.restriction.proofs.by_kinds.Reads as reads
-use Rattle.restriction.proofs.+any_alternative+by_kinds+choice_marks+element_choice+element_marks+element_sequence+group_wildcard+recurse_ordered+restrict+same_kind+sequence_choice+sequence_marks.Lts-by_kinds as lts
-use Rattle.restriction.proofs.+any_alternative+by_kinds+choice_marks+element_choice+element_marks+element_sequence+group_wildcard+recurse_ordered+restrict+same_kind+sequence_choice+sequence_marks.Proof.Base.{by-kinds-at, by-kinds-calls}
+use Rattle.restriction.proofs.+any_alternative+by_kinds+element_choice+element_sequence+group_wildcard+marks-choice_marks+marks-element_marks+marks-sequence_marks+recurse_ordered+restrict+same_kind+sequence_choice.Lts-by_kinds as lts
+use Rattle.restriction.proofs.+any_alternative+by_kinds+element_choice+element_sequence+group_wildcard+marks-choice_marks+marks-element_marks+marks-sequence_marks+recurse_ordered+restrict+same_kind+sequence_choice.Proof.Base.{by-kinds-at, by-kinds-calls}
 
 module _ (t : ℕ) (c : lts.After-kind-of2 (by-kinds-calls t) (by-kinds-at t) reads.Post) where
   -- the places above the match at which something of the two trees has been read

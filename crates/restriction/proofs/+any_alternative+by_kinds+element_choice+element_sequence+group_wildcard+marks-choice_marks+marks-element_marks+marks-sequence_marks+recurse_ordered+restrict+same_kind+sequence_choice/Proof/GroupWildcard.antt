@@ -11,8 +11,8 @@ use Rattle.restriction.proofs.Parts.{first-tree}
 use Rattle.restriction.proofs.Ranges.{check-fails, check-holds}
 use Rattle.restriction.proofs.Members.{Members, members-start, members-end, member-passes, member-undecided, member-fails}
 use Rattle.restriction.proofs.group_wildcard.Reads as reads
-use Rattle.restriction.proofs.+any_alternative+by_kinds+choice_marks+element_choice+element_marks+element_sequence+group_wildcard+recurse_ordered+restrict+same_kind+sequence_choice+sequence_marks.Lts-group_wildcard as lts
-use Rattle.restriction.proofs.+any_alternative+by_kinds+choice_marks+element_choice+element_marks+element_sequence+group_wildcard+recurse_ordered+restrict+same_kind+sequence_choice+sequence_marks.Proof.Base.{group-wildcard-at, group-wildcard-calls}
+use Rattle.restriction.proofs.+any_alternative+by_kinds+element_choice+element_sequence+group_wildcard+marks-choice_marks+marks-element_marks+marks-sequence_marks+recurse_ordered+restrict+same_kind+sequence_choice.Lts-group_wildcard as lts
+use Rattle.restriction.proofs.+any_alternative+by_kinds+element_choice+element_sequence+group_wildcard+marks-choice_marks+marks-element_marks+marks-sequence_marks+recurse_ordered+restrict+same_kind+sequence_choice.Proof.Base.{group-wildcard-at, group-wildcard-calls}
 
 abbrev Inv-loop : lts.InvT-loop
 Inv-loop group ds dn b leaves tables n seen₀ members₀ i₀ seen members i = Members (λ x. judge leaves tables n x (asAny true (tree b))) dn ds seen members i

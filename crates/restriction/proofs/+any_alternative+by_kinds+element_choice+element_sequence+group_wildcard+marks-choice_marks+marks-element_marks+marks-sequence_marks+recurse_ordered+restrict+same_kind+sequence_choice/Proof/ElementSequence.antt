@@ -4,8 +4,8 @@ use borrow.Author.Needs.{needs}
 use native.Mathlib.Omega.{arith}
 use Rattle.restriction.proofs.Once.{sequence-counts-once, own-is-element, own-sequence-mark}
 use Rattle.restriction.proofs.element_sequence.Reads as reads
-use Rattle.restriction.proofs.+any_alternative+by_kinds+choice_marks+element_choice+element_marks+element_sequence+group_wildcard+recurse_ordered+restrict+same_kind+sequence_choice+sequence_marks.Lts-element_sequence as lts
-use Rattle.restriction.proofs.+any_alternative+by_kinds+choice_marks+element_choice+element_marks+element_sequence+group_wildcard+recurse_ordered+restrict+same_kind+sequence_choice+sequence_marks.Proof.Base.{element-sequence-at, element-sequence-calls}
+use Rattle.restriction.proofs.+any_alternative+by_kinds+element_choice+element_sequence+group_wildcard+marks-choice_marks+marks-element_marks+marks-sequence_marks+recurse_ordered+restrict+same_kind+sequence_choice.Lts-element_sequence as lts
+use Rattle.restriction.proofs.+any_alternative+by_kinds+element_choice+element_sequence+group_wildcard+marks-choice_marks+marks-element_marks+marks-sequence_marks+recurse_ordered+restrict+same_kind+sequence_choice.Proof.Base.{element-sequence-at, element-sequence-calls}
 
 pub element-sequence-closed : {M : Type 1} (t : ℕ) → lts.Closed (element-sequence-calls t) (element-sequence-at t) reads.Post M
 element-sequence-closed t =

@@ -7,8 +7,8 @@ use Rattle.particle.specs.Occurs.{rangeOk}
 use Rattle.restriction.specs.Views.{rangeReason}
 use Rattle.restriction.proofs.Ranges.{check-fails, check-holds, reason-is}
 use Rattle.restriction.proofs.same_kind.Reads as reads
-use Rattle.restriction.proofs.+any_alternative+by_kinds+choice_marks+element_choice+element_marks+element_sequence+group_wildcard+recurse_ordered+restrict+same_kind+sequence_choice+sequence_marks.Lts-same_kind as lts
-use Rattle.restriction.proofs.+any_alternative+by_kinds+choice_marks+element_choice+element_marks+element_sequence+group_wildcard+recurse_ordered+restrict+same_kind+sequence_choice+sequence_marks.Proof.Base.{same-kind-at, same-kind-calls}
+use Rattle.restriction.proofs.+any_alternative+by_kinds+element_choice+element_sequence+group_wildcard+marks-choice_marks+marks-element_marks+marks-sequence_marks+recurse_ordered+restrict+same_kind+sequence_choice.Lts-same_kind as lts
+use Rattle.restriction.proofs.+any_alternative+by_kinds+element_choice+element_sequence+group_wildcard+marks-choice_marks+marks-element_marks+marks-sequence_marks+recurse_ordered+restrict+same_kind+sequence_choice.Proof.Base.{same-kind-at, same-kind-calls}
 
 pub same-kind-closed : {M : Type 1} (t : ℕ) → lts.Closed (same-kind-calls t) (same-kind-at t) reads.Post M
 same-kind-closed t =

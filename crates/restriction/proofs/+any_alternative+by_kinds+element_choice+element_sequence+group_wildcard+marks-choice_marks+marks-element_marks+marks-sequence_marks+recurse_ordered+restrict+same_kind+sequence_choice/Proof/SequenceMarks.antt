@@ -7,9 +7,9 @@ use Rattle.particle.specs.Tree.{tree}
 use Rattle.restriction.specs.Views.{asOnce, judge}
 use Rattle.restriction.proofs.Parts.{first-tree, later-trees}
 use Rattle.restriction.proofs.Walks.{TwoWalks, sequence-ruled-out, walks-start, walks-next, walks-end, walks-settled}
-use Rattle.restriction.proofs.sequence_marks.Reads as reads
-use Rattle.restriction.proofs.+any_alternative+by_kinds+choice_marks+element_choice+element_marks+element_sequence+group_wildcard+recurse_ordered+restrict+same_kind+sequence_choice+sequence_marks.Lts-sequence_marks as lts
-use Rattle.restriction.proofs.+any_alternative+by_kinds+choice_marks+element_choice+element_marks+element_sequence+group_wildcard+recurse_ordered+restrict+same_kind+sequence_choice+sequence_marks.Proof.Base.{sequence-marks-at, sequence-marks-calls}
+use Rattle.restriction.proofs.marks.sequence_marks.Reads as reads
+use Rattle.restriction.proofs.+any_alternative+by_kinds+element_choice+element_sequence+group_wildcard+marks-choice_marks+marks-element_marks+marks-sequence_marks+recurse_ordered+restrict+same_kind+sequence_choice.Lts-marks-sequence_marks as lts
+use Rattle.restriction.proofs.+any_alternative+by_kinds+element_choice+element_sequence+group_wildcard+marks-choice_marks+marks-element_marks+marks-sequence_marks+recurse_ordered+restrict+same_kind+sequence_choice.Proof.Base.{sequence-marks-at, sequence-marks-calls}
 
 abbrev Inv-loop : lts.InvT-loop
 Inv-loop d leaf p bs bn leaves tables n within once₀ own₀ bitems₀ left₀ once own bitems left = TwoWalks (judge leaves tables n) (asOnce true (tree d)) (tree d) bn bs once own bitems left

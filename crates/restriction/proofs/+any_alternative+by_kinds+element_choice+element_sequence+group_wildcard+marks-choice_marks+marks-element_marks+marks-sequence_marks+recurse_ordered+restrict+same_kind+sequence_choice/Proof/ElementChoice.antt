@@ -5,8 +5,8 @@ use native.Mathlib.Omega.{arith}
 use borrow.Author.Tests.{not-true, not-false}
 use Rattle.restriction.proofs.Once.{choice-counts-once, choice-out, own-is-element, own-choice-mark}
 use Rattle.restriction.proofs.element_choice.Reads as reads
-use Rattle.restriction.proofs.+any_alternative+by_kinds+choice_marks+element_choice+element_marks+element_sequence+group_wildcard+recurse_ordered+restrict+same_kind+sequence_choice+sequence_marks.Lts-element_choice as lts
-use Rattle.restriction.proofs.+any_alternative+by_kinds+choice_marks+element_choice+element_marks+element_sequence+group_wildcard+recurse_ordered+restrict+same_kind+sequence_choice+sequence_marks.Proof.Base.{element-choice-at, element-choice-calls}
+use Rattle.restriction.proofs.+any_alternative+by_kinds+element_choice+element_sequence+group_wildcard+marks-choice_marks+marks-element_marks+marks-sequence_marks+recurse_ordered+restrict+same_kind+sequence_choice.Lts-element_choice as lts
+use Rattle.restriction.proofs.+any_alternative+by_kinds+element_choice+element_sequence+group_wildcard+marks-choice_marks+marks-element_marks+marks-sequence_marks+recurse_ordered+restrict+same_kind+sequence_choice.Proof.Base.{element-choice-at, element-choice-calls}
 
 pub element-choice-closed : {M : Type 1} (t : ℕ) → lts.Closed (element-choice-calls t) (element-choice-at t) reads.Post M
 element-choice-closed t =

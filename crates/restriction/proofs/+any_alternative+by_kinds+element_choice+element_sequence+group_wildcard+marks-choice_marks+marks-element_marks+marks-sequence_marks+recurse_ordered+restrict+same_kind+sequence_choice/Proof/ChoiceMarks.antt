@@ -9,9 +9,9 @@ use Rattle.verdicts.specs.declared.Verdict.the-variants.{Ok}
 use Rattle.restriction.specs.Views.{asOnce, judge}
 use Rattle.restriction.proofs.Parts.{first-tree, later-trees}
 use Rattle.restriction.proofs.Walks.{ThreeReadings, choice-ruled-out, readings-start, readings-next, readings-end, readings-pass}
-use Rattle.restriction.proofs.choice_marks.Reads as reads
-use Rattle.restriction.proofs.+any_alternative+by_kinds+choice_marks+element_choice+element_marks+element_sequence+group_wildcard+recurse_ordered+restrict+same_kind+sequence_choice+sequence_marks.Lts-choice_marks as lts
-use Rattle.restriction.proofs.+any_alternative+by_kinds+choice_marks+element_choice+element_marks+element_sequence+group_wildcard+recurse_ordered+restrict+same_kind+sequence_choice+sequence_marks.Proof.Base.{choice-marks-at, choice-marks-calls}
+use Rattle.restriction.proofs.marks.choice_marks.Reads as reads
+use Rattle.restriction.proofs.+any_alternative+by_kinds+element_choice+element_sequence+group_wildcard+marks-choice_marks+marks-element_marks+marks-sequence_marks+recurse_ordered+restrict+same_kind+sequence_choice.Lts-marks-choice_marks as lts
+use Rattle.restriction.proofs.+any_alternative+by_kinds+element_choice+element_sequence+group_wildcard+marks-choice_marks+marks-element_marks+marks-sequence_marks+recurse_ordered+restrict+same_kind+sequence_choice.Proof.Base.{choice-marks-at, choice-marks-calls}
 
 abbrev Inv-loop : lts.InvT-loop
 Inv-loop d leaf p bs bn leaves tables n within first₀ once₀ own₀ bitems₀ left₀ first once own bitems left = ThreeReadings (judge leaves tables n) (asOnce true (tree d)) (tree d) bn bs first once own bitems left

@@ -5,8 +5,8 @@ use native.Mathlib.Omega.{arith}
 use Rattle.particle.proofs.Laws.{some-bytes}
 use Rattle.restriction.proofs.Arms.{elements-apart}
 use Rattle.restriction.proofs.restrict.Reads as reads
-use Rattle.restriction.proofs.+any_alternative+by_kinds+choice_marks+element_choice+element_marks+element_sequence+group_wildcard+recurse_ordered+restrict+same_kind+sequence_choice+sequence_marks.Lts-restrict as lts
-use Rattle.restriction.proofs.+any_alternative+by_kinds+choice_marks+element_choice+element_marks+element_sequence+group_wildcard+recurse_ordered+restrict+same_kind+sequence_choice+sequence_marks.Proof.Base.{restrict-at, restrict-calls}
+use Rattle.restriction.proofs.+any_alternative+by_kinds+element_choice+element_sequence+group_wildcard+marks-choice_marks+marks-element_marks+marks-sequence_marks+recurse_ordered+restrict+same_kind+sequence_choice.Lts-restrict as lts
+use Rattle.restriction.proofs.+any_alternative+by_kinds+element_choice+element_sequence+group_wildcard+marks-choice_marks+marks-element_marks+marks-sequence_marks+recurse_ordered+restrict+same_kind+sequence_choice.Proof.Base.{restrict-at, restrict-calls}
 
 pub restrict-closed : {M : Type 1} (t : ℕ) → lts.Closed (restrict-calls t) (restrict-at t) reads.Post M
 restrict-closed t =

@@ -8,8 +8,8 @@ use Rattle.restriction.specs.Views.{asOnce, judge}
 use Rattle.restriction.proofs.Parts.{first-tree}
 use Rattle.restriction.proofs.Members.{Alternatives, alternatives-start, alternatives-end, alternative-passes, alternative-undecided, alternative-fails}
 use Rattle.restriction.proofs.any_alternative.Reads as reads
-use Rattle.restriction.proofs.+any_alternative+by_kinds+choice_marks+element_choice+element_marks+element_sequence+group_wildcard+recurse_ordered+restrict+same_kind+sequence_choice+sequence_marks.Lts-any_alternative as lts
-use Rattle.restriction.proofs.+any_alternative+by_kinds+choice_marks+element_choice+element_marks+element_sequence+group_wildcard+recurse_ordered+restrict+same_kind+sequence_choice+sequence_marks.Proof.Base.{any-alternative-at, any-alternative-calls}
+use Rattle.restriction.proofs.+any_alternative+by_kinds+element_choice+element_sequence+group_wildcard+marks-choice_marks+marks-element_marks+marks-sequence_marks+recurse_ordered+restrict+same_kind+sequence_choice.Lts-any_alternative as lts
+use Rattle.restriction.proofs.+any_alternative+by_kinds+element_choice+element_sequence+group_wildcard+marks-choice_marks+marks-element_marks+marks-sequence_marks+recurse_ordered+restrict+same_kind+sequence_choice.Proof.Base.{any-alternative-at, any-alternative-calls}
 
 abbrev Inv-loop : lts.InvT-loop
 Inv-loop d once bs bn reason leaves tables n seen₀ bitems₀ j₀ seen bitems j = Alternatives (judge leaves tables n) (reasonNumber reason) (asOnce once (tree d)) bn bs seen bitems j

@@ -6,8 +6,8 @@ use Rattle.restriction.specs.Views.{judge}
 use Rattle.restriction.proofs.Parts.{first-tree}
 use Rattle.restriction.proofs.OrderedWalk.{Between, Trying, walk-start, walk-try, lax-end, strict-end, used-up, both-advance, seen-advance, skip-lax, skip-emptiable, item-fails}
 use Rattle.restriction.proofs.recurse_ordered.Reads as reads
-use Rattle.restriction.proofs.+any_alternative+by_kinds+choice_marks+element_choice+element_marks+element_sequence+group_wildcard+recurse_ordered+restrict+same_kind+sequence_choice+sequence_marks.Lts-recurse_ordered as lts
-use Rattle.restriction.proofs.+any_alternative+by_kinds+choice_marks+element_choice+element_marks+element_sequence+group_wildcard+recurse_ordered+restrict+same_kind+sequence_choice+sequence_marks.Proof.Base.{recurse-ordered-at, recurse-ordered-calls}
+use Rattle.restriction.proofs.+any_alternative+by_kinds+element_choice+element_sequence+group_wildcard+marks-choice_marks+marks-element_marks+marks-sequence_marks+recurse_ordered+restrict+same_kind+sequence_choice.Lts-recurse_ordered as lts
+use Rattle.restriction.proofs.+any_alternative+by_kinds+element_choice+element_sequence+group_wildcard+marks-choice_marks+marks-element_marks+marks-sequence_marks+recurse_ordered+restrict+same_kind+sequence_choice.Proof.Base.{recurse-ordered-at, recurse-ordered-calls}
 
 abbrev Inv-base : lts.InvT-base
 Inv-base ds dn once bs bn lax leaves tables n seen₀ ditems i bitems₀ j₀ d seen bitems j = Trying (judge leaves tables n) lax once dn ds bn bs d ditems i seen bitems j
