@@ -3,6 +3,7 @@
 //! docs/BENCHMARK.md says what is measured. Exit status 0: measured; 1: the answers differ; 2:
 //! bad usage, or a file that could not be written.
 
+mod beside;
 mod chains;
 // A sheet is measured only where the comparison of sheets finds no difference.
 #[path = "../sheets/check.rs"]
@@ -52,6 +53,9 @@ fn main() {
     print_load();
     let mut groups = groups::every();
     groups.retain(|group| options.wants_group(group));
+    if beside::EARLIER.is_some() {
+        return beside::print(&groups, options.seed, options.rounds);
+    }
     print_groups(&groups, &options);
     if options.wants(chains::NAME) {
         chains::print(options.seed, options.rounds);

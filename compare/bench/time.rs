@@ -28,11 +28,8 @@ pub struct Time {
 /// takes for a batch.
 pub type Measured<S> = [fn(&[&S]) -> f64; 3];
 
-/// Those who mark sheets.
+/// Those who mark sheets; the library is the last.
 const MARKING: Measured<Subject> = [rust_ready, rust_bytes, library];
-
-/// The place of the library in these.
-const LIBRARY: usize = 2;
 
 /// Who is left out, since a marking takes too long.
 #[derive(Clone, Copy, PartialEq, PartialOrd)]
@@ -78,13 +75,23 @@ fn measure_without<S>(
     without: Without,
     rounds: usize,
 ) -> Times {
+    let [ready, bytes, library] = in_turn(subjects, measured, without as usize, rounds);
+    Times { ready, bytes, library: library.expect("the library is always measured") }
+}
+
+/// Each of those who are measured, from the place `first` on, in the order of their places.
+pub fn in_turn<S, const N: usize>(
+    subjects: &[&S],
+    measured: [fn(&[&S]) -> f64; N],
+    first: usize,
+    rounds: usize,
+) -> [Option<Time>; N] {
     let batches: Vec<&[&S]> = subjects.chunks(BATCH).collect();
-    let mut times: Vec<[Vec<f64>; 3]> = vec![Default::default(); batches.len()];
-    let first = without as usize;
+    let mut times: Vec<[Vec<f64>; N]> = vec![[const { Vec::new() }; N]; batches.len()];
     let mut start = Instant::now();
     let mut alone = false;
     for round in 0..rounds {
-        // Where the Rust took all the time, the library has rounds of its own.
+        // Where the others took all the time, the last has rounds of its own.
         if round > 0 && !alone && start.elapsed() > ENOUGH {
             (alone, start) = (true, Instant::now());
         }
@@ -92,23 +99,22 @@ fn measure_without<S>(
             break;
         }
         for (batch, times) in batches.iter().zip(&mut times) {
-            for turn in 0..3 {
-                let who = (round + turn) % 3;
-                if who >= first && (!alone || who == LIBRARY) {
+            for turn in 0..N {
+                let who = (round + turn) % N;
+                if who >= first && (!alone || who == N - 1) {
                     times[who].push(measured[who](batch));
                 }
             }
         }
     }
-    let [ready, bytes, library] = sums(times, subjects.len());
-    Times { ready, bytes, library: library.expect("the library is always measured") }
+    sums(times, subjects.len())
 }
 
 /// The least and the median time of each batch, summed up; nothing for one who
 /// was left out.
-fn sums(times: Vec<[Vec<f64>; 3]>, count: usize) -> [Option<Time>; 3] {
-    let mut sums = [Some(Time::default()); 3];
-    for (sum, mut times) in times.into_iter().flat_map(|times| (0..3).zip(times)) {
+fn sums<const N: usize>(times: Vec<[Vec<f64>; N]>, count: usize) -> [Option<Time>; N] {
+    let mut sums = [Some(Time::default()); N];
+    for (sum, mut times) in times.into_iter().flat_map(|times| (0..N).zip(times)) {
         times.sort_by(f64::total_cmp);
         sums[sum] = sums[sum].filter(|_| !times.is_empty()).map(|so_far| Time {
             least: so_far.least + times[0] / count as f64,

@@ -43,8 +43,8 @@ module _ (s : List ℕ) (a : sheetRefusal s ≡ Accepted) {out : List ℕ} (l : 
   pub base-buffer : Buffer (basePart s) out
   base-buffer = record { room = omega (arith, base-few (passed s a)); most = omega arith }
 
-pub same-buffer : {t p out : List ℕ} → t ≡ p → Buffer p out → Buffer t out
-same-buffer e b = rw e b
+pub has-room : {t p out : List ℕ} → t ≡ p → Buffer p out → length t ≤ length out
+has-room e b = rw e (b .room)
 
 -- `&out[..end]`, as the borrow checker gives it
 pub part-length : {t out : List ℕ} {end : ℕ} → Prepared t out end → end ≡ length (take end out)
@@ -58,9 +58,10 @@ module _ (t : List ℕ) {out : List ℕ} {end : ℕ} (e : StartsWith t out end) 
   pub tidied-length : end ≡ length (take end out)
   tidied-length = sym (length-take-le end out (e .within))
 
-  pub tidied-small : {before : List ℕ} → length out ≡ length before → Buffer t before → length (take end out) ≤ recordSize * maxRecords
+  pub tidied-small : {p before : List ℕ} → length out ≡ length before → Buffer p before → length (take end out) ≤ recordSize * maxRecords
   tidied-small l b = omega (arith, tidied-length, e .within, b .most)
 
+  -- s is what stands there then
   pub prepared : {s : List ℕ} → length s ≡ length (take end out) → Run 1 s × (tree s ≡ tree (take end out)) → Prepared t (s ++ drop end out) end
   prepared {s} l m =
       let front : take end (s ++ drop end out) ≡ s = take-at s (drop end out) end (l ∙ sym tidied-length) in

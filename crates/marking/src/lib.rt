@@ -1,17 +1,16 @@
 // Mark a sheet: the check, both trees tidied, the mark. Every byte string is an input.
 ghost use mathlib.Core.Path.{_≡_};
 ghost use Rattle.particle.specs.Occurs.{isZero};
-ghost use Rattle.particle.specs.Tree.{pairOf, records, tree};
+ghost use Rattle.particle.specs.Tree.{pairOf, tree};
 ghost use Rattle.particle.specs.Rows.{Row};
 ghost use Rattle.particle.specs.Runs.{Run};
-ghost use Rattle.particle.specs.Encode.{Faithful};
 ghost use Rattle.rules.specs.Mark.{earlyPass, markTidied};
 ghost use Rattle.verdicts.specs.Paper.{leavesOf, tablesOf};
 ghost use Rattle.verdicts.specs.Reasons.{markOf};
 ghost use Rattle.sheet.specs.declared.SheetChecked.the-variants.{Accepted};
 ghost use Rattle.sheet.specs.Refused.{sheetRefusal};
 ghost use Rattle.sheet.specs.Layout.{derivedPart, basePart};
-ghost use Rattle.marking.specs.Buffers.{Buffer, Prepared, bothFit};
+ghost use Rattle.marking.specs.Buffers.{Buffer, bothFit};
 ghost use Rattle.marking.specs.Answer.{markOfSheet, markSheet, markMeaning, SetInRange};
 use intake::Refusal;
 use sheet::SheetChecked;
@@ -69,27 +68,17 @@ fn mark_tidied(d: &[u8], b: &[u8], leaves: &[u8], tables: &[u8], n: u8) -> Verdi
     restriction::restrict(d, false, b, false, leaves, tables, n)
 }
 
-// The tree of t, tidied and measured, at the start of out: answers how many bytes it takes.
-fn prepare(t: &[u8], out: &mut [u8]) -> usize
-    requires { ⌜ Row 1 (now t) ⌝ }
-    requires { ⌜ Faithful (records (now t)) ⌝ }
-    requires { ⌜ Buffer (now t) (now out) ⌝ }
-    ensures { λ r. ⌜ Prepared (now (t .entry)) (now (out .exit)) r ⌝ }
-{
-    let n = tidying::normalize_in(t, out);
-    particle::measure(&mut out[..n]);
-    n
-}
-
-// The mark of an accepted sheet: both trees are tidied first, into the buffers.
+// The mark of an accepted sheet: both trees are tidied and measured first, in the buffers.
 fn mark_in(s: &[u8], derived: &mut [u8], base: &mut [u8]) -> Verdict
     requires { ⌜ sheetRefusal (now s) ≡ Accepted ⌝ }
     requires { ⌜ Buffer (derivedPart (now s)) (now derived) ⌝ }
     requires { ⌜ Buffer (basePart (now s)) (now base) ⌝ }
     ensures { λ r. ⌜ markOf r ≡ markOfSheet (now (s .entry)) ⌝ }
 {
-    let d = prepare(sheet::derived(s), derived);
-    let b = prepare(sheet::base(s), base);
+    let d = tidying::normalize_in(sheet::derived(s), derived);
+    let b = tidying::normalize_in(sheet::base(s), base);
+    particle::measure(&mut derived[..d]);
+    particle::measure(&mut base[..b]);
     mark_tidied(
         &derived[..d],
         &base[..b],

@@ -99,8 +99,8 @@ fn found_emptiable(t: &[u8], x: Found) -> bool
     ensures { λ r. ⌜ r ≡ emptiable (tree (now (t .entry))) ⌝ }
 {
     let r = record_at(t);
-    let items = if r.kind == CHOICE { x.some } else { x.every };
-    (r.min == 0) | ((r.kind >= SEQUENCE) & items)
+    let asked = if r.kind == CHOICE { x.some } else { x.every };
+    (r.min == 0) | ((r.kind >= SEQUENCE) & asked)
 }
 
 // What is noted where `empty` tells whether a tree is emptiable.
