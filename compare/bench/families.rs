@@ -71,8 +71,8 @@ const FOUND: [(&str, &str); 10] = [
     ),
     (
         "found, totals",
-        "S levels=10 of=S(1,2) last=S(1,2) item=C*0e end=e | C(0,*) item=w(0,*) \
-         | item=ok/fails",
+        "S levels=10 of=S(2,2) last=S(2,2) item=e fill=chains few=1 \
+         | C(0,*) item=w(1,*) tail=w(0,*) | item=fails tail=ok",
     ),
     (
         "found, empty sequences",
