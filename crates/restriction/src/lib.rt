@@ -1,6 +1,8 @@
 // The mark of two tidied trees: `restrict` selects a rule by the two kinds, and the rules ask it for the marks of items.
 // A part of a tree's bytes that starts at a record stands for the trees from there on; where several are meant, a count goes with it.
 // The trees are measured, so that a step from one item to the next takes no longer where the item is a large group.
+// A slice is handed on as `&d[..]`, and the answer of a longer rule has a name before it is handed back: so the compiler has both in
+// registers. Else they are written in parts and at once read as a whole, which takes as long as the rest of a judgement.
 mod marks;
 mod pairs;
 mod rows;
@@ -59,7 +61,8 @@ pub fn restrict(
             };
         }
     }
-    by_kinds(d, once, b, any, leaves, tables, n)
+    let v = by_kinds(&d[..], once, &b[..], any, leaves, tables, n);
+    v
 }
 
 // The same by the two kinds, as one number: each selects its rule.
@@ -88,25 +91,40 @@ fn by_kinds(
     match 5 * kind_of(dr) + kind_of(br) {
         0 => verdicts::element_restrict(dr.leaf, p, br.leaf, q, tables, n),
         1 => verdicts::element_wildcard(dr.leaf, p, br.leaf, q, tables, n),
-        2 => element_sequence(d, once, dr.leaf, p, bs, bn, q, leaves, tables, n),
-        3 => element_choice(d, once, dr.leaf, p, bs, bn, q, leaves, tables, n),
+        2 => element_sequence(&d[..], once, dr.leaf, p, bs, bn, q, leaves, tables, n),
+        3 => element_choice(&d[..], once, dr.leaf, p, bs, bn, q, leaves, tables, n),
         4 => Verdict::Unknown,
         5 => Verdict::Violation(Reason::WildcardElement),
         6 => verdicts::wildcard_wildcard(dr.leaf, p, br.leaf, q, leaves, tables, n),
         7 => Verdict::Violation(Reason::WildcardGroup),
         8 => Verdict::Violation(Reason::WildcardGroup),
         9 => Verdict::Violation(Reason::WildcardGroup),
-        10 => same_kind(ds, dn, false, p, b, 1, one, false, leaves, tables, n),
-        11 => group_wildcard(d, ds, dn, b, q, leaves, tables, n),
+        10 => same_kind(ds, dn, false, p, &b[..], 1, one, false, leaves, tables, n),
+        11 => {
+            let v = group_wildcard(&d[..], ds, dn, &b[..], q, leaves, tables, n);
+            v
+        }
         12 => same_kind(ds, dn, false, p, bs, bn, q, false, leaves, tables, n),
         13 => sequence_choice(ds, dn, p, bs, bn, q, leaves, tables, n),
-        14 => group_all(ds, dn, p, bs, bn, q, false, leaves, tables, n),
-        15 => same_kind(ds, dn, false, p, b, 1, one, true, leaves, tables, n),
-        16 => group_wildcard(d, ds, dn, b, q, leaves, tables, n),
+        14 => {
+            let v = group_all(ds, dn, p, bs, bn, q, false, leaves, tables, n);
+            v
+        }
+        15 => same_kind(ds, dn, false, p, &b[..], 1, one, true, leaves, tables, n),
+        16 => {
+            let v = group_wildcard(&d[..], ds, dn, &b[..], q, leaves, tables, n);
+            v
+        }
         18 => same_kind(ds, dn, false, p, bs, bn, q, true, leaves, tables, n),
         20 => Verdict::Unknown,
-        21 => group_wildcard(d, ds, dn, b, q, leaves, tables, n),
-        24 => group_all(ds, dn, p, bs, bn, q, true, leaves, tables, n),
+        21 => {
+            let v = group_wildcard(&d[..], ds, dn, &b[..], q, leaves, tables, n);
+            v
+        }
+        24 => {
+            let v = group_all(ds, dn, p, bs, bn, q, true, leaves, tables, n);
+            v
+        }
         _ => Verdict::Violation(Reason::GroupKind),
     }
 }
@@ -313,7 +331,7 @@ fn group_wildcard(
         let next = particle::next(d);
         members = next;
         left -= 1;
-        match by_kinds(d, false, b, true, leaves, tables, n) {
+        match by_kinds(d, false, &b[..], true, leaves, tables, n) {
             Verdict::Ok => {}
             Verdict::Unknown => {
                 seen = true;
