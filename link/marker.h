@@ -38,7 +38,7 @@
  * archive (link/stack) and an argument on how deep calls nest (README, 'Memory
  * and time'); tests with deep trees run on a stack of that size and a page more.
  * No contract bounds the time either. It grows as the product of the two trees'
- * records; the longest marking that we know takes some 36 milliseconds
+ * records; the longest marking that we know takes some 30 milliseconds
  * (samples/longest.sheet, with 991 and 1000 records; docs/BENCHMARK.md).
  */
 #ifndef MARKER_H
