@@ -35,9 +35,9 @@ const BY_HAND: [(&str, fn(usize) -> Sheet); 7] = [
 ];
 
 /// Ten that the search found. A chain is as long as a tree may be deep. The first
-/// seven were the worst by time before an element's two readings, emptiness and
-/// total ranges were each worked out once; the last three are among the worst
-/// since, and there the Rust has no more entries than pairs of records.
+/// six were the worst by time before an element's two readings, emptiness and
+/// total ranges were each worked out once; the last four are among the worst
+/// since, and there the rule is entered at most twice for a pair of records.
 const FOUND: [(&str, &str); 10] = [
     (
         "found, sequences",
