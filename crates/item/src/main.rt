@@ -1,0 +1,55 @@
+// Prints one item of a tree's root. Standard input is the item's number, from 0, in two bytes, low byte first, and then the tree; standard
+// output is the item's bytes. Where there is none, a line on standard error says why: `no item` or `refused N`.
+ghost use mathlib.Core.Path.{_≡_};
+ghost use Rattle.particle.specs.Record.{half};
+use entries::EmptiableAnswer;
+use intake::Refusal;
+use libc::STDERR_FILENO;
+use libc::STDIN_FILENO;
+use libc::STDOUT_FILENO;
+
+// The bytes of the item's number.
+const NUMBER: usize = 2;
+
+// The number that the two bytes give.
+fn item_number(head: &[u8; NUMBER]) -> usize
+    ensures { λ r. ⌜ r ≡ half (now (head .entry)) 0 ⌝ }
+{
+    particle::read_u16(head, 0) as usize
+}
+
+fn print_refused(r: Refusal) {
+    io::write_all(STDERR_FILENO, b"refused ");
+    io::print_decimal(STDERR_FILENO, intake::number(r) as u64);
+    io::write_all(STDERR_FILENO, b"\n");
+}
+
+// Why t has no such item. The entries for one tree refuse alike, so another one tells the refusal.
+fn print_why(t: &[u8]) {
+    match entries::emptiable(t) {
+        EmptiableAnswer::Refused(r) => print_refused(r),
+        _ => {
+            io::write_all(STDERR_FILENO, b"no item\n");
+        }
+    }
+}
+
+// An item has at least one record, so nothing but a missing one is empty.
+fn print_item(t: &[u8], k: usize) {
+    let part = entries::item(t, k);
+    if part.len() == 0 {
+        print_why(t);
+        return;
+    }
+    io::write_all(STDOUT_FILENO, part);
+}
+
+// Input that ends within the number leaves nothing for the tree, which is refused as an empty one. Input past the longest tree fills the
+// buffer beyond that limit, and is refused.
+fn main() {
+    let mut head = [0u8; NUMBER];
+    io::read_full(STDIN_FILENO, &mut head);
+    let mut buf = io::large_buffer();
+    let n = io::read_full(STDIN_FILENO, &mut buf);
+    print_item(&buf[..n], item_number(&head));
+}
