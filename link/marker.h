@@ -1,7 +1,9 @@
 /*
  * marker.h: mark exam sheets in process, from C99 or C++11. Link with
  * libexports.a, which `rt staticlib exports` writes to target/staticlib. The
- * archive is for x86-64 Linux. link/README.md has an example.
+ * archive is for x86-64 Linux. link/README.md has an example. words.h, which
+ * this header includes, has the numbers of reasons and refusals and their words;
+ * sheet.h writes a sheet, a tree or a chain into a buffer.
  *
  * What a function promises is what its contract in crates/exports/src/lib.rt
  * promises, over the numbers of crates/exports/specs/Numbers.antt. The
@@ -34,18 +36,66 @@
  *
  * STACK AND TIME. There is no heap. No contract bounds the stack: functions
  * call themselves, as deep as a tree is, and a stack that is too small ends the
- * process. A call takes less than MARKER_MOST_STACK bytes, by the frames in the
- * archive (link/stack) and an argument on how deep calls nest (README, 'Memory
- * and time'); tests with deep trees run on a stack of that size and a page more.
- * No contract bounds the time either. It grows as the product of the two trees'
- * records; the longest marking that we know takes some 30 milliseconds
- * (samples/longest.sheet, with 991 and 1000 records; docs/BENCHMARK.md).
+ * process. A call takes less than MARKER_MOST_STACK bytes, which are 57344, by the
+ * frames in the archive (link/stack) and an argument on how deep calls nest
+ * (README, 'Memory and time'); tests with deep trees run on a stack of that size
+ * and a page more. No contract bounds the time either. It grows as the product of
+ * the two trees' records; the longest marking that we know takes some 30
+ * milliseconds (samples/longest.sheet, with 991 and 1000 records;
+ * docs/BENCHMARK.md).
+ *
+ * LAYOUT. Numbers are little-endian and without sign. A sheet has n leaves and
+ * trees of D and B records; a chain has L levels. docs/LAYOUT.md says more.
+ *
+ *   sheet                       at byte            bytes
+ *   contents                    0                  8
+ *   leaves, from number 0       8                  4n
+ *   first table                 8+4n               n*n
+ *   second table                8+4n+n*n           n*n
+ *   derived tree                8+4n+2n*n          16D
+ *   base tree                   8+4n+2n*n+16D      16B
+ *
+ *   contents                    at byte  bytes     values
+ *   leaf count n                0        1         1 to 64
+ *   a zero byte                 1        1         0
+ *   derived record count D      2        2         1 to 1000
+ *   base record count B         4        2         1 to 1000
+ *   length of the sheet         6        2         46 to 40456
+ *
+ *   leaf                        at byte  bytes     values
+ *   kind                        0        1         0 element, 1 wildcard
+ *   process contents            1        1         0 skip, 1 lax, 2 strict; element: 0
+ *   local name number           2        2         any; wildcard: 0
+ *
+ *   table                       at byte  bytes     values
+ *   derived leaf d, base leaf b d*n+b    1         0 ok, 1 undecided, 140 to 152 a reason
+ *
+ *   record                      at byte  bytes     values
+ *   kind                        0        1         0 element, 1 wildcard, 2 sequence,
+ *                                                  3 choice, 4 all
+ *   leaf number                 1        1         below n, a leaf of this kind; alone:
+ *                                                  0 to 63; group: 0
+ *   item count                  2        2         group: its items; leaf: 0
+ *   unbounded mark              4        1         0, or 1 for an unbounded maximum
+ *   zero bytes                  5        3         0 each
+ *   minimum                     8        4         at most a bounded maximum
+ *   maximum                     12       4         unbounded: 0; all-group: 1
+ *
+ *   chain                       at byte  bytes     values
+ *   number of levels L          0        1         1 to 17
+ *   record count of each level  1        2L        0 absent, 1 to 1000
+ *   trees that are present      1+2L     16 for each record
+ *
+ * A tree is its records in preorder, a group before its items: 1 to 1000 of
+ * them, the root at depth 1, depth at most 12. An all-group's items are elements.
  */
 #ifndef MARKER_H
 #define MARKER_H
 
 #include <stddef.h>
 #include <stdint.h>
+
+#include "words.h"
 
 #ifdef __cplusplus
 extern "C" {
@@ -58,7 +108,11 @@ extern "C" {
 #define MARKER_MOST_SHEET 40456  /* the longest sheet */
 #define MARKER_MOST_CHAIN 16035  /* the longest chain that is joined */
 
-#define MARKER_MOST_LEVELS 17    /* the levels of a chain, at most */
+/* Numbers, at most. */
+#define MARKER_MOST_LEAVES 64    /* the leaves of a sheet */
+#define MARKER_MOST_RECORDS 1000 /* the records of a tree */
+#define MARKER_MOST_DEPTH 12     /* the depth of a tree, whose root is at depth 1 */
+#define MARKER_MOST_LEVELS 17    /* the levels of a chain */
 
 #define MARKER_MOST_STACK 57344  /* bytes of stack that a call takes, at most; not proved */
 
@@ -81,119 +135,6 @@ extern "C" {
 /* 2^33, which MARKER_BEYOND + N does not reach either: a total minimum, or a
  * bounded total maximum, above 4294967295. */
 #define MARKER_TOO_LARGE UINT64_C(8589934592)
-
-/* Why a sheet fails, in docs/KEY.md's words. The paper sets 140 to 152. */
-enum marker_reason {
-    /* element, wildcard: the range isn't within the base's */
-    MARKER_ELEMENT_WILDCARD_RANGE = 101,
-    /* wildcard, element: a wildcard can't restrict an element */
-    MARKER_WILDCARD_ELEMENT = 102,
-    /* wildcard, wildcard: the range isn't within the base's */
-    MARKER_WILDCARD_RANGE = 103,
-    /* wildcard, wildcard: weaker process contents */
-    MARKER_WEAKER_PROCESS_CONTENTS = 104,
-    /* sequence, sequence: the range isn't within the base's */
-    MARKER_SEQUENCE_RANGE = 105,
-    /* choice, choice: the range isn't within the base's */
-    MARKER_CHOICE_RANGE = 106,
-    /* all, all: the range isn't within the base's */
-    MARKER_ALL_RANGE = 107,
-    /* an item against an all-group: no untaken base element has its local
-     * name number */
-    MARKER_NOT_IN_ALL = 108,
-    /* against an all-group: a base element of minimum above 0 is left
-     * untaken */
-    MARKER_MISSING_FROM_ALL = 109,
-    /* element, sequence: the base minimum is above 1 (second reading, which
-     * no mark shows) */
-    MARKER_SEQUENCE_REQUIRED = 110,
-    /* element, choice: no alternative passes (second reading, which no mark
-     * shows) */
-    MARKER_NO_ALTERNATIVE = 111,
-    /* element, choice: the base minimum is above 1 (second reading, which no
-     * mark shows) */
-    MARKER_CHOICE_REQUIRED = 112,
-    /* group, wildcard: the total range isn't within the base's */
-    MARKER_TOTAL_RANGE = 113,
-    /* wildcard, group: a wildcard can't restrict a group */
-    MARKER_WILDCARD_GROUP = 114,
-    /* all against sequence or choice, or choice against sequence or all */
-    MARKER_GROUP_KIND = 115,
-    /* sequence, choice: the pair times the item count isn't within the base
-     * pair */
-    MARKER_SEQUENCE_TOTAL = 116,
-    /* sequence, choice: a member restricts none of the alternatives */
-    MARKER_MEMBER_ALTERNATIVE = 117,
-    /* sequence, all: the range isn't within the base's */
-    MARKER_SEQUENCE_ALL_RANGE = 118,
-    /* sequence, all: an item that isn't an element */
-    MARKER_MEMBER_NOT_ELEMENT = 119,
-    /* ordered walk: a derived item is left and the base items are used up */
-    MARKER_NOT_ALLOWED = 120,
-    /* ordered walk: a base item is left over that isn't emptiable */
-    MARKER_REQUIRED_MISSING = 121,
-    /* element, element: the minimum is below the base's */
-    MARKER_MIN_BELOW = 122,
-    /* element, element: the maximum is unbounded, the base's isn't */
-    MARKER_MAX_UNBOUNDED = 123,
-    /* element, element: the maximum is above the base's */
-    MARKER_MAX_ABOVE = 124,
-    /* element, sequence or choice: the base maximum is 0 (second reading,
-     * which no mark shows) */
-    MARKER_BASE_MAY_NOT_OCCUR = 125,
-    /* the first reason that the paper sets */
-    MARKER_LEAST_SET = 140,
-    /* the last */
-    MARKER_MOST_SET = 152
-};
-
-/* Why a sheet, a tree or a chain is refused, in docs/KEY.md's words. */
-enum marker_refusal {
-    /* the caller's mistake: sheet under 8 bytes, a contents field out of its
-     * range, or total field or actual length unlike the formula */
-    MARKER_REFUSAL_CONTENTS = 1,
-    /* the caller's mistake: buffer shorter than the tree handed in, or than
-     * the joined tree, which no sheet shows */
-    MARKER_REFUSAL_BUFFER = 2,
-    /* the examiner's mistake: the fields of a leaf are out of order */
-    MARKER_REFUSAL_LEAF = 3,
-    /* the examiner's mistake: a verdict that is not 0, 1 or 140 to 152 */
-    MARKER_REFUSAL_VERDICT = 4,
-    /* the examiner's mistake: base tree, the fields of a record are out of
-     * order */
-    MARKER_REFUSAL_BASE_FIELDS = 5,
-    /* the examiner's mistake: base tree, the minimum is above a bounded
-     * maximum */
-    MARKER_REFUSAL_BASE_PAIR = 6,
-    /* the examiner's mistake: base tree, an all-group's maximum isn't 1, or
-     * an all's item is no element */
-    MARKER_REFUSAL_BASE_ALL_GROUP = 7,
-    /* the examiner's mistake: base tree, the depth is above 12 */
-    MARKER_REFUSAL_BASE_DEPTH = 8,
-    /* the examiner's mistake: base tree, the item counts need fewer or more
-     * records */
-    MARKER_REFUSAL_BASE_COUNTS = 9,
-    /* the candidate's mistake: derived tree, or a tree alone, the fields of
-     * a record are out of order */
-    MARKER_REFUSAL_DERIVED_FIELDS = 10,
-    /* the candidate's mistake: derived tree, or a tree alone, the minimum is
-     * above a bounded maximum */
-    MARKER_REFUSAL_DERIVED_PAIR = 11,
-    /* the candidate's mistake: derived tree, or a tree alone, an all-group's
-     * maximum isn't 1, or an all's item is no element */
-    MARKER_REFUSAL_DERIVED_ALL_GROUP = 12,
-    /* the candidate's mistake: derived tree, or a tree alone, the depth is
-     * above 12 */
-    MARKER_REFUSAL_DERIVED_DEPTH = 13,
-    /* the candidate's mistake: derived tree, or a tree alone, the item
-     * counts need fewer or more records */
-    MARKER_REFUSAL_DERIVED_COUNTS = 14,
-    /* the caller's mistake: chain of 0 or over 17 levels, or of a length
-     * unlike its counts */
-    MARKER_REFUSAL_CHAIN = 15,
-    /* the examiner's mistake: joined tree over 1000 records or depth 12 */
-    MARKER_REFUSAL_LIMIT = 16
-};
 
 /*
  * The mark of a sheet.

@@ -8,7 +8,8 @@
 //! promise; link/marker.h words them one by one and says what holds of threads,
 //! stack and time. What a caller in C must see to, Rust's types see to here.
 //! 'Document 01' is the specification of sheets, trees, marks and refusals, as
-//! document 02 changes it; document 02 is also that of chains.
+//! document 02 changes it; document 02 is also that of chains. sheet.rs writes
+//! sheets, trees and chains.
 
 // A program may use a part of it.
 #![allow(dead_code)]
@@ -49,6 +50,15 @@ pub const MOST_SHEET: usize = 40456;
 
 /// The length in bytes of the longest chain that is joined.
 pub const MOST_CHAIN: usize = 16035;
+
+/// A sheet has at most so many leaves.
+pub const MOST_LEAVES: usize = 64;
+
+/// A tree has at most so many records.
+pub const MOST_RECORDS: usize = 1000;
+
+/// A tree has at most this depth; its root is at depth 1.
+pub const MOST_DEPTH: usize = 12;
 
 /// A chain has at most so many levels.
 pub const MOST_LEVELS: usize = 17;
@@ -93,7 +103,7 @@ impl fmt::Display for Mark {
 }
 
 // A type of docs/KEY.md's numbers: a constant for each, whose words are its
-// documentation and what it displays as; other numbers display as $other.
+// documentation and what it displays as; other numbers have the words $other.
 macro_rules! numbers {
     ($(#[$doc:meta])* $type:ident, $other:literal: $($number:literal $name:ident $words:literal)*) => {
         $(#[$doc])*
@@ -110,14 +120,19 @@ macro_rules! numbers {
             pub fn number(self) -> u32 {
                 self.0
             }
+
+            /// Its words in docs/KEY.md.
+            pub fn words(self) -> &'static str {
+                match self.0 {
+                    $($number => $words,)*
+                    _ => $other,
+                }
+            }
         }
 
         impl fmt::Display for $type {
             fn fmt(&self, f: &mut fmt::Formatter<'_>) -> fmt::Result {
-                f.write_str(match self.0 {
-                    $($number => $words,)*
-                    _ => $other,
-                })
+                f.write_str(self.words())
             }
         }
     };
@@ -194,6 +209,9 @@ numbers! {
         "the caller's mistake: chain of 0 or over 17 levels, or of a length unlike its counts"
     16 LIMIT "the examiner's mistake: joined tree over 1000 records or depth 12"
 }
+
+// So that `?` hands a refusal on. A reason is an answer, not an error.
+impl core::error::Error for Refusal {}
 
 /// A total range: its least and its greatest number. Both are exact: sums and
 /// products are formed without limit, zero times unbounded being 0, and only the

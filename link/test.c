@@ -343,6 +343,10 @@ int main(void)
     test_layout();
     test_stack();
     test_helpers();
+    test_words();
+    test_sheet();
+    test_faults();
+    test_drawn();
     printf("%lu checks, %lu differences\n", checks, differences);
     return differences != 0;
 }

@@ -8,14 +8,18 @@ enum { ELEMENT, WILDCARD, SEQUENCE, CHOICE, ALL };
 
 static const int64_t STAR = -1; /* a maximum: unbounded */
 
-/* The layout (docs/LAYOUT.md) and the limits that marker.h does not have; they
- * stand here only. Where the fields of a record and of the contents stand: */
+/* The layout (docs/LAYOUT.md), for what the tests write without builder.h. Where
+ * the fields of a record and of the contents stand: */
 enum { KIND = 0, LEAF = 1, COUNT = 2, UNBOUNDED = 4, ZEROS = 5, MIN = 8, MAX = 12 };
 enum { LEAVES = 0, ZERO = 1, DERIVED_COUNT = 2, BASE_COUNT = 4, TOTAL = 6 };
 enum { CONTENTS_SIZE = 8, LEAF_SIZE = 4, ZERO_BYTES = MIN - ZEROS };
 /* Bytes of a chain's number of levels and of a level's record count. */
 enum { LEVELS_SIZE = 1, COUNT_SIZE = 2 };
-enum { MOST_LEAVES = 64, MOST_RECORDS = 1000, MOST_DEPTH = 12 };
+enum {
+    MOST_LEAVES = MARKER_MOST_LEAVES,
+    MOST_RECORDS = MARKER_MOST_RECORDS,
+    MOST_DEPTH = MARKER_MOST_DEPTH
+};
 
 /* Where a sheet's derived tree starts. */
 #define TREES_AT(leaves) (CONTENTS_SIZE + LEAF_SIZE * (leaves) + 2 * (leaves) * (leaves))
@@ -62,9 +66,13 @@ uint8_t *lend(void);
 /* So many bytes stand at its start, and every other byte is as before. */
 void check_lent(const char *what, const uint8_t *bytes, size_t count);
 
-/* The tests of test_chains.c, of test_layout.c and of test_stack.c. */
+/* The tests of the other files. */
 void test_chains(void);
 void test_layout(void);
 void test_stack(void);
+void test_words(void);
+void test_sheet(void);
+void test_faults(void);
+void test_drawn(void);
 
 #endif

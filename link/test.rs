@@ -2,13 +2,15 @@
 //! byte of a lent buffer.
 
 mod marker;
+mod sheet;
 mod test_chains;
 mod test_layout;
+mod test_sheet;
 
 use marker::Maximum::{self, Bounded, Unbounded};
 use marker::Minimum::{self, Exact};
 use marker::{copy_item, emptiable, item, mark, tidy, total_range, Mark, Range, Reason, Refusal};
-use marker::{MOST_TREE, RECORD};
+use marker::{MOST_DEPTH, MOST_RECORDS, MOST_TREE, RECORD};
 
 const ELEMENT: u8 = 0;
 const WILDCARD: u8 = 1;
@@ -16,8 +18,8 @@ const SEQUENCE: u8 = 2;
 const CHOICE: u8 = 3;
 const ALL: u8 = 4;
 
-// The layout (docs/LAYOUT.md) and the limits that marker.rs does not have; they
-// stand here only. Places of a record's fields:
+// The layout (docs/LAYOUT.md), for what the tests write without sheet.rs. Places
+// of a record's fields:
 const KIND: usize = 0;
 const LEAF: usize = 1;
 const COUNT: usize = 2;
@@ -35,9 +37,7 @@ const TOTAL: usize = 6;
 
 const CONTENTS_SIZE: usize = 8;
 const LEAF_SIZE: usize = 4;
-const MOST_LEAVES: u8 = 64;
-const MOST_RECORDS: usize = 1000;
-const MOST_DEPTH: usize = 12;
+const MOST_LEAVES: u8 = marker::MOST_LEAVES as u8;
 
 /// Writes bytes over those from a place on.
 fn put(bytes: &mut [u8], at: usize, value: &[u8]) {
@@ -336,5 +336,18 @@ fn words() {
         "the caller's mistake: buffer shorter than the tree handed in, or than the joined tree, which no sheet shows";
     assert_eq!(Refusal::BUFFER.to_string(), words);
     let Mark::Fails(set) = changed(&[(FIRST, 140)]) else { panic!("140 is a reason") };
-    assert_eq!(set.to_string(), "a reason that the paper sets");
+    assert_eq!(set.words(), "a reason that the paper sets");
+    assert_eq!(set.to_string(), set.words());
+}
+
+/// A refusal goes on as an error, with its words.
+#[test]
+fn error() {
+    fn asked(tree: &[u8]) -> Result<bool, Box<dyn std::error::Error>> {
+        Ok(emptiable(tree)?)
+    }
+    assert!(!asked(&once(ELEMENT, 0, 0)).expect("a tree"));
+    let error = asked(&[]).expect_err("no tree");
+    assert_eq!(error.to_string(), Refusal::DERIVED_COUNTS.words());
+    assert_eq!(error.downcast_ref(), Some(&Refusal::DERIVED_COUNTS));
 }
