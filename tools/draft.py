@@ -1,14 +1,16 @@
 """The sheet that a paper's text describes: document 01's defaults (equal
 letters ok, others 140), changed by the statements."""
 
-from typing import List, NamedTuple, Optional
+from typing import FrozenSet, List, NamedTuple, Optional, Tuple
 
 import chain
 from faults import PaperError, Token
+from hints import SEVERAL
+from judgement import Subject
 from notation import LeafNames, TreeReader, leaf_kind
 from scanner import Scanner
 from sheet import Kind, Leaf, Sheet, Tree, usual_leaf, usual_table
-from statements import LeafList, NameNumber, ProcessContents, read_statement
+from statements import LeafList, NameNumber, ProcessContents, read_statement, scanned
 
 # The leaf of a paper whose trees have none: a sheet has at least one.
 ONLY_LEAF = "a"
@@ -26,49 +28,53 @@ class Paper(NamedTuple):
     # None where the text has no derived tree.
     derived: Optional[Tree]
     chain: chain.Chain
+    # The verdicts that a line sets: the table, the derived and the base leaf.
+    is_set: FrozenSet[Tuple[str, int, int]]
 
-    def sheet(self, base):
-        return Sheet(self.leaves, self.first, self.second, self.derived, base)
+    def subject(self, join):
+        """What is marked: its base joined so where it is a chain."""
+        levels = self.chain.levels
+        base = levels[0] if len(levels) == 1 else join(self)
+        sheet = Sheet(self.leaves, self.first, self.second, self.derived, base)
+        return Subject(sheet, self.names, self.is_set)
 
 
 def parse(text, join=lambda paper: chain.join(paper.chain.levels)):
     """The sheet, its base joined so where it is a chain; raises PaperError at
     the first fault."""
-    paper = read(text)
-    levels = paper.chain.levels
-    return paper.sheet(levels[0] if len(levels) == 1 else join(paper))
+    return read(text).subject(join).sheet
 
 
 def read(text, alone=False):
     """What the text says; ``alone`` lets it leave out the derived tree. Raises
     PaperError at the first fault."""
     lines = text.split("\n")
-    scanners = scanned(lines)
+    scanners = [found for found in scanned(lines) if isinstance(found, Scanner)]
     if not scanners:
         end = Token("", len(lines), 1)
         wanted = f"a chain, or {TWO_TREES}" if alone else TWO_TREES
         raise PaperError(end, wanted, "the end of the paper")
     names = LeafNames()
     derived, base = read_trees(scanners[0], names, alone)
-    statements = [read_statement(scanner) for scanner in scanners[1:]]
+    statements = [statement_of(scanner) for scanner in scanners[1:]]
     draft = Draft(leaf_order(statements, names))
     for statement in statements:
         draft.apply(statement)
     order = [draft.numbers[name] for name in names.numbers]
     base = base._replace(levels=[renumbered(tree, order) for tree in base.levels])
+    is_set = frozenset(key for key in draft.set_by if isinstance(key, tuple))
     return Paper(list(draft.numbers), draft.leaves, draft.first, draft.second,
-                 renumbered(derived, order), base)
+                 renumbered(derived, order), base, is_set)
 
 
-def scanned(lines):
-    """The statements: each is a line, and those after it while a bracket is open."""
-    scanners = []
-    for number, line in enumerate(lines, 1):
-        if scanners and scanners[-1].opened > 0:
-            scanners[-1].go_on(line, number)
-        else:
-            scanners.append(Scanner(line, number))
-    return [scanner for scanner in scanners if not scanner.is_blank]
+def statement_of(scanner):
+    """A statement after the trees. Without ':' it is none, but looks like trees."""
+    try:
+        return read_statement(scanner)
+    except PaperError as error:
+        if scanner.has("|") and not scanner.has(":"):
+            error.hint = SEVERAL
+        raise
 
 
 def read_trees(scanner, names, alone):

@@ -24,15 +24,22 @@ class Token(NamedTuple):
 class PaperError(Exception):
     """Something else was expected at a token."""
 
-    def __init__(self, token, expected, found=None):
+    def __init__(self, token, expected, found=None, hint=None):
         super().__init__(f"expected {expected}, found {found or token.shown()}")
         self.line = token.line
         self.column = token.column
+        # What to write instead, where it can be guessed.
+        self.hint = hint
 
     def report(self, file, text):
-        """The message, the line, and a caret below the column."""
+        """The message, the line, a caret below the column, and the hint."""
         line = text.split("\n")[self.line - 1].rstrip()
-        return f"{file}:{self.line}:{self.column}: {self}\n{pointer(line, self.column - 1)}"
+        hint = f"\nhint: {self.hint}" if self.hint else ""
+        return f"{file}:{self.line}:{self.column}: {self}\n{pointer(line, self.column - 1)}{hint}"
+
+    def in_a_line(self):
+        hint = f"; hint: {self.hint}" if self.hint else ""
+        return f"{self.line}:{self.column}: {self}{hint}"
 
 
 def pointer(line, place):

@@ -14,6 +14,10 @@ RECORD = struct.Struct("<BBHB3sII")
 # A chain's number of levels, and the record count of a level.
 CHAIN = struct.Struct("<B")
 LEVEL = struct.Struct("<H")
+# The length of a sheet among many, and the number of an item before its tree, as
+# `marker --many` and `item` read them.
+LENGTH = struct.Struct("<H")
+ITEM = struct.Struct("<H")
 
 
 class Contents(NamedTuple):
@@ -118,3 +122,13 @@ def encode_chain(levels):
     trees = [b"" if tree is None else encode_tree(tree) for tree in levels]
     counts = b"".join(LEVEL.pack(len(tree) // RECORD.size) for tree in trees)
     return CHAIN.pack(len(levels)) + counts + b"".join(trees)
+
+
+def encode_many(sheets):
+    """The bytes of many sheets: each after its length."""
+    return b"".join(LENGTH.pack(len(sheet)) + sheet for sheet in sheets)
+
+
+def encode_item(k, tree):
+    """What `item` reads: the item's number, and the tree."""
+    return ITEM.pack(k) + encode_tree(tree)

@@ -1,12 +1,15 @@
-"""Runs the proved marking program on a sheet's bytes."""
+"""Runs the proved marking program on the bytes of a sheet, or of many."""
 
 import re
 from typing import NamedTuple, Optional
 
+from layout import encode_many
 from proved import MARKER
 from words import in_words
 
 ANSWER = re.compile(rb"(passes|undecided|(fails|refused) ([0-9]{1,3}))\n")
+# Asks for the marks of many sheets.
+MANY = "--many"
 
 
 class Mark(NamedTuple):
@@ -23,11 +26,24 @@ class Mark(NamedTuple):
 
 def mark(data):
     """The mark of a sheet; raises NoAnswer where the program gives none."""
-    run = MARKER.run(data)
-    answer = ANSWER.fullmatch(run.stdout)
-    if run.returncode != 0 or not answer:
+    return marks_of(MARKER.run(data), 1)[0]
+
+
+def mark_many(sheets):
+    """The marks of sheets, by one run of the program; raises NoAnswer where it
+    does not give one for each."""
+    return marks_of(MARKER.run(encode_many(sheets), MANY), len(sheets)) if sheets else []
+
+
+def marks_of(run, count):
+    lines = run.stdout.splitlines(keepends=True)
+    answers = [ANSWER.fullmatch(line) for line in lines]
+    if run.returncode != 0 or run.stderr or len(answers) != count or not all(answers):
         raise MARKER.no_answer(run)
-    word, with_number, number = answer.groups()
+    return [mark_in(*answer.groups()) for answer in answers]
+
+
+def mark_in(word, with_number, number):
     if number is None:
         return Mark(word.decode(), None)
     return Mark(with_number.decode(), int(number))

@@ -4,6 +4,7 @@ for elements, w for wildcards, (1,2) a pair, * unbounded, no pair (1,1)."""
 import re
 
 from faults import PaperError
+from hints import A_LEAF
 from sheet import MOST_DEPTH, MOST_LEAVES, MOST_OCCURS, MOST_RECORDS, Kind, Tree
 
 LETTERS = "abcdefghijklmnopqrstuvxyz"
@@ -12,7 +13,6 @@ GROUPS = {"S": Kind.SEQUENCE, "C": Kind.CHOICE, "A": Kind.ALL}
 GROUP_LETTERS = {kind: letter for letter, kind in GROUPS.items()}
 # A letter, or a letter with a number where the letters do not suffice.
 LEAF = re.compile(r"[a-z]([1-9][0-9]*)?")
-A_LEAF = "a leaf (a letter such as a, w or a1)"
 
 
 def leaf_kind(name):

@@ -22,10 +22,14 @@ class Program(NamedTuple):
     answer: str
 
     def path(self):
-        """Where the variable says, or where `rt check` puts it."""
-        return Path(os.environ.get(self.variable) or ROOT / "target" / "bin" / self.name)
+        """Where the variable says; or beside the tools, as in a folder that
+        `tools/pack` made; or where `rt check` puts it."""
+        named = os.environ.get(self.variable)
+        packed = ROOT / "bin" / self.name
+        built = ROOT / "target" / "bin" / self.name
+        return Path(named) if named else packed if packed.is_file() else built
 
-    def run(self, data):
+    def run(self, data, *words):
         """What it does with the data; raises NoAnswer where it can't be run."""
         path = self.path()
         if not path.is_file():
@@ -34,8 +38,8 @@ class Program(NamedTuple):
                 f"root, or set {self.variable} to the program's path"
             )
         try:
-            return subprocess.run([str(path.resolve())], input=data, stdout=subprocess.PIPE,
-                                  stderr=subprocess.PIPE, check=False)
+            return subprocess.run([str(path.resolve()), *words], input=data, check=False,
+                                  stdout=subprocess.PIPE, stderr=subprocess.PIPE)
         except OSError as error:
             raise NoAnswer(f"{self.called} {path} does not run: {error.strerror}") from error
 
@@ -50,3 +54,6 @@ class Program(NamedTuple):
 MARKER = Program("marker", "MARKER", "the marking program", "mark")
 JOIN = Program("join", "JOIN", "the joining program", "tree")
 DESCRIBE = Program("describe", "DESCRIBE", "the describing program", "description")
+TIDY = Program("tidy", "TIDY", "the tidying program", "tree")
+ITEM = Program("item", "ITEM", "the program for items", "tree")
+PROGRAMS = (MARKER, JOIN, DESCRIBE, TIDY, ITEM)

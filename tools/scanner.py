@@ -1,5 +1,5 @@
 """The tokens of one statement of a paper: of a line, and of the lines after it
-while a bracket is open.
+that belong to it.
 
 A scanner remembers what was looked for at the present token, so that an error
 lists everything that could have stood there."""
@@ -7,12 +7,15 @@ lists everything that could have stood there."""
 import re
 
 from faults import PaperError, Token
+from hints import hint_at
 
 # A word (a letter with its number, or a keyword), a number, a sign; any other
 # character is a token by itself, which nothing expects.
 TOKEN = re.compile(r"[A-Za-z]+[0-9]*|[0-9]+|\S")
 COMMENT = "#"
 OPENING, CLOSING = "[", "]"
+# Signs between trees: a statement does not end in one, and none begins with one.
+BETWEEN_TREES = ("|", "+")
 # A number of more digits is too large for every field.
 MOST_DIGITS = 20
 
@@ -35,6 +38,23 @@ class Scanner:
             self.tokens[-1:] = [*found, Token("", line, len(text) + 1)]
         words = [token.text for token in found]
         self.opened += words.count(OPENING) - words.count(CLOSING)
+
+    @property
+    def line(self):
+        return self.tokens[0].line
+
+    @property
+    def last_line(self):
+        return self.tokens[-1].line
+
+    @property
+    def is_open(self):
+        """Whether the next line belongs to it whatever it is."""
+        return self.opened > 0 or (len(self.tokens) > 1 and self.tokens[-2].text in BETWEEN_TREES)
+
+    def goes_on_in(self, text):
+        """Whether a line goes on with it by its first sign."""
+        return text.lstrip().startswith(BETWEEN_TREES)
 
     @property
     def token(self):
@@ -89,8 +109,11 @@ class Scanner:
 
     def fail(self, *more):
         """The present token is none of those tried, and not what ``more`` says."""
-        *early, last = self.tried + list(more)
-        raise PaperError(self.token, f"{', '.join(early)} or {last}" if early else last)
+        wanted = self.tried + list(more)
+        *early, last = wanted
+        expected = f"{', '.join(early)} or {last}" if early else last
+        before = self.before if self.at else None
+        raise PaperError(self.token, expected, hint=hint_at(self.token, before, wanted))
 
 
 def as_number(text):

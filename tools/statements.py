@@ -1,5 +1,6 @@
 """The statements of a paper, one to a line after the trees:
 
+    paper : Anna              the paper's name, before the trees
     leaves : a, b, w          every leaf, in the order of the leaf numbers
     a, b : name 7             local name number
     w : lax                   process contents
@@ -7,15 +8,29 @@
 
 What they mean for the sheet is the matter of draft.py."""
 
+import re
 from typing import List, NamedTuple, Optional, Union
 
 from faults import Token
-from notation import A_LEAF, leaf_kind
-from scanner import as_number
+from hints import A_LEAF
+from notation import leaf_kind
+from scanner import Scanner, as_number
 from sheet import MOST_NAME, OK, PROCESS_CONTENTS, SET_REASONS, UNDECIDED, is_verdict
 
 VERDICT_WORDS = {"ok": OK, "undecided": UNDECIDED}
 A_REASON = f"a reason from {SET_REASONS[0]} to {SET_REASONS[-1]}"
+NAME_LINE = re.compile(r"\s*paper\s*:([^#]*)")
+
+
+class NameLine(NamedTuple):
+    """A line that names the paper after it; any text may be a name."""
+
+    name: str
+    line: int
+
+    @property
+    def last_line(self):
+        return self.line
 
 
 class LeafList(NamedTuple):
@@ -44,6 +59,22 @@ class Verdicts(NamedTuple):
 
 
 Statement = Union[LeafList, NameNumber, ProcessContents, Verdicts]
+
+
+def scanned(lines):
+    """The statements and the lines that name a paper. A statement is a line, and
+    those after it while it is open or they go on with it."""
+    found = []
+    for number, line in enumerate(lines, 1):
+        last = found[-1] if found else None
+        if isinstance(last, Scanner) and (last.is_open or last.goes_on_in(line)):
+            last.go_on(line, number)
+            continue
+        name = NAME_LINE.match(line)
+        statement = NameLine(name.group(1).strip(), number) if name else Scanner(line, number)
+        if name or not statement.is_blank:
+            found.append(statement)
+    return found
 
 
 def read_statement(scanner) -> Statement:

@@ -34,6 +34,14 @@ def needs(program):
 needs_marker = needs(proved.MARKER)
 needs_joiner = needs(proved.JOIN)
 needs_describer = needs(proved.DESCRIBE)
+needs_tidier = needs(proved.TIDY)
+needs_items = needs(proved.ITEM)
+
+
+def needs_tree_programs(test):
+    return needs_tidier(needs_items(test))
+
+
 
 ROOT = proved.ROOT
 SAMPLES = ROOT / "samples"
@@ -116,6 +124,45 @@ class Grower:
         return minimum, self.rng.choice([maximum, maximum, None])
 
 
+def near_sheet(seed, leaves=5, records=30):
+    """An accepted sheet whose derived tree is mostly within its base tree, and
+    whose leaves mostly take each other's places."""
+    rng = random.Random(seed)
+    listed = [random_leaf(rng, 0.2) for _ in range(rng.randint(1, leaves))]
+    depth = rng.choice([2, 4, MOST_DEPTH])
+    base = max((Grower(rng, listed, records, depth).tree() for _ in range(4)),
+               key=lambda tree: tree.records)
+    ease = rng.choice([0.3, 0.6, 0.95])
+    first, second = (
+        [[OK if rng.random() < ease else verdict for verdict in row]
+         for row in random_table(rng, len(listed))] for _ in range(2)
+    )
+    derived = narrowed(rng, base, rng.choice([0, 0, 0.02, 0.2]))
+    return Sheet(listed, first, second, derived, base)
+
+
+def narrowed(rng, tree, wild):
+    """A tree of smaller pairs and fewer items, with something else in so many
+    places."""
+    minimum, maximum = tree.minimum, tree.maximum
+    if rng.random() < 0.3 and tree.kind != Kind.ALL:
+        most = min(minimum + 3, MOST_OCCURS) if maximum is None else maximum
+        minimum, maximum = sorted(rng.choices([minimum, most, min(most, minimum + 1)], k=2))
+    if rng.random() < wild and tree.kind != Kind.ALL:
+        maximum = None
+    items = [narrowed(rng, item, wild) for item in tree.items
+             if item.minimum or rng.random() < 0.7]
+    if tree.kind == Kind.CHOICE and items and rng.random() < 0.5:
+        items = rng.sample(items, rng.randint(1, len(items)))
+    if tree.kind == Kind.CHOICE and items and rng.random() < 0.4:
+        return items[0]
+    if tree.kind == Kind.ALL and rng.random() < 0.5:
+        return tree._replace(kind=Kind.SEQUENCE, items=rng.sample(items, len(items)))
+    if rng.random() < wild:
+        items = items[1:]
+    return tree._replace(minimum=minimum, maximum=maximum, items=items)
+
+
 def random_paper(seed, sheet):
     """One of the many texts that stand for the sheet: letters, grouping, order,
     blanks and comments are free."""
@@ -179,9 +226,11 @@ def spaced(rng, line):
     return text + rng.choice(["", "", " ", " # S[a | : é"])
 
 
-def run(*words, data=b"", program=None, joiner=None, describer=None, stdout=subprocess.PIPE):
+def run(*words, data=b"", program=None, joiner=None, describer=None, tidier=None, items=None,
+        stdout=subprocess.PIPE):
     environment = dict(os.environ)
-    for variable, path in (("MARKER", program), ("JOIN", joiner), ("DESCRIBE", describer)):
+    for variable, path in (("MARKER", program), ("JOIN", joiner), ("DESCRIBE", describer),
+                           ("TIDY", tidier), ("ITEM", items)):
         if path:
             environment[variable] = str(path)
     return subprocess.run([str(PAPER), *map(str, words)], input=data, stdout=stdout,

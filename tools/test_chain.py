@@ -5,7 +5,7 @@ import random
 import unittest
 
 import chain
-import joiner
+import treewriters
 import layout
 from draft import parse, read
 from notation import tree_text
@@ -152,11 +152,11 @@ class SameAsTheProgram(unittest.TestCase):
         whole = chain.join(levels)
         if whole and (whole.records > MOST_RECORDS or whole.depth > MOST_DEPTH):
             with self.assertRaises(Refused) as raised:
-                joiner.join(levels, leaves)
+                treewriters.join(levels, leaves)
             cut = len(layout.encode_chain(levels)) > MOST_READ
             self.assertEqual(raised.exception.number, 15 if cut else 16)
             return "cut" if cut else "refused"
-        self.assertEqual(joiner.join(levels, leaves), whole)
+        self.assertEqual(treewriters.join(levels, leaves), whole)
         return "no content" if whole is None else len(levels)
 
     def test_random_chains(self):
@@ -181,7 +181,7 @@ class SameAsTheProgram(unittest.TestCase):
 
     def test_a_tree_of_a_record_too_many(self):
         with self.assertRaises(Refused) as raised:
-            joiner.join([row(MOST_RECORDS + 1)], [ELEMENT])
+            treewriters.join([row(MOST_RECORDS + 1)], [ELEMENT])
         self.assertEqual(raised.exception.number, 14)
 
     def test_input_past_what_the_program_reads(self):
@@ -240,11 +240,11 @@ class Joining(Command):
         self.assertFalse(out.exists())
 
     def test_wrong_notation(self):
-        self.check(self.join(data="a\n+ b"), 1, b"", "<stdin>:2:1: expected ")
+        self.check(self.join(data="a\n+ + b"), 1, b"", "<stdin>:2:3: expected ")
         self.check(self.join("mark", data="a + b"), 1, b"", "<stdin>:1:3: expected '(' or '|'")
 
     def test_a_program_that_differs(self):
-        here = "the chain gives S[a,b] by this aid, "
+        here = "the joined tree is S[a,b] by this aid, "
         for use in ("join", "mark", "write"):
             for answer, message, there in (
                 (self.OTHER, "", "S[b,a]"), (b"", "refused 16\\n", "refused 16"),

@@ -49,12 +49,16 @@ IN_TREES = [
     ("A(2,1)[a] | a", 1, 2, "a minimum that is not above the maximum", "(2,1)"),
     ("A[a,w] | a", 1, 5, "an element as item of an all-group", "'w'"),
     ("A[S[a]] | a", 1, 3, "an element as item of an all-group", "'S'"),
-    # While a bracket is open, the tree goes on in the next line.
+    # A tree goes on in the next line while a bracket is open, after | or + and
+    # before | or +.
     ("S[a,\n  b c] | a", 2, 5, "'(', ']' or ','", "'c'"),
     ("S[a # b]\n\n,c | a", 3, 4, "'(', ']' or ','", "'|'"),
     ("S[a\n# b]\n\n", 1, 4, "'(', ']' or ','", END),
     ("S[a] | S[a,\nb\na | b : ok", 3, 1, "'(', ']' or ','", "'a'"),
-    ("S[a\n]\n | a", 2, 2, "'|'", END),
+    ("S[a\n]\n a | a", 2, 2, "'|'", END),
+    ("S[a\n]\n | a | b", 3, 6, f"'(', '+' or {END}", "'|'"),
+    ("a |\n\n", 1, 4, f"'-', {TREE}", END),
+    ("a\n|\nb +\n# none", 3, 4, f"'-', {TREE}", END),
 ]
 
 IN_STATEMENTS = [
@@ -98,6 +102,26 @@ IN_STATEMENTS = [
 ]
 
 
+# The text, and words of the hint that its fault has; None for no hint.
+HINTED = [
+    ("S[a,b](0,1) | a", "S(0,1)[a,b]"),
+    ("a | C[S[a,b](0,1),c]", "S(0,1)[a,b]"),
+    ("a | S[a](0,*)", "S(0,1)[a,b]"),
+    ("S[white,black] | a", "a leaf is one letter"),
+    ("a | b\nwhite | b : ok", "a leaf is one letter"),
+    ("S[ab] | a", "commas part leaves"),
+    ("sequence[a] | a", "here S"),
+    ("a | Choice[a,b]", "here C"),
+    ("a | b\nc | d", "parted by a blank line"),
+    ("a | b\nS[a] | S[b]", "parted by a blank line"),
+    ("a | b\na | b : ok\nS[a,b] | b", "'paper : NAME'"),
+    ("a | b\na | b ok :", None),
+    ("S[a b] | a", None),
+    ("S[a] | 5", None),
+    ("a | b\nS[a]", None),
+]
+
+
 def elements(count):
     return [f"a{number}" for number in range(1, count + 1)]
 
@@ -110,6 +134,15 @@ class Faults(FaultsCase):
     def test_statements(self):
         for fault in IN_STATEMENTS:
             self.check(*fault)
+
+    def test_hints(self):
+        for text, words in HINTED:
+            with self.subTest(text=text):
+                with self.assertRaises(PaperError) as raised:
+                    parse(text)
+                hint = raised.exception.hint
+                self.assertEqual(hint is None, words is None, hint)
+                self.assertIn(words or "", hint or "")
 
     def test_depth(self):
         parse(f"{'S[' * (MOST_DEPTH - 1)}a{']' * (MOST_DEPTH - 1)} | a")
@@ -149,6 +182,10 @@ class Reports(unittest.TestCase):
             "  S[a b] | S[a]\n"
             "      ^",
         )
+
+    def test_hint_below_the_caret(self):
+        self.assertTrue(self.report("S[a](0,1) | a").endswith(
+            "\n      ^\nhint: a group's pair stands before its items, as in S(0,1)[a,b]"))
 
     def test_tabs_keep_the_caret_in_place(self):
         self.assertTrue(self.report("\tS[a\tb] | a").endswith("  \tS[a\tb] | a\n  \t   \t^"))

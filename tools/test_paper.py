@@ -11,9 +11,10 @@ import marker
 from draft import parse
 from printed import paper_text
 from support import (
-    ROOT, SAMPLES, Command, needs_joiner, needs_marker, random_paper, random_sheet, run,
+    ROOT, SAMPLES, Command, needs_describer, needs_joiner, needs_marker, needs_tree_programs,
+    random_paper, random_sheet, run,
 )
-from usage import GRAMMAR
+from usage import GRAMMAR, USES
 from words import NEVER_SHOWN, REASONS, REFUSALS, in_words
 
 README = ROOT / "tools" / "README.md"
@@ -128,7 +129,8 @@ class Writing(Command):
             self.check(run(*words, data=b"a | a"), 2, b"", "missing")
 
     def test_bad_usage(self):
-        for words in ((), ("sing",), ("read", "a", "b"), ("read", "-o", "x")):
+        for words in ((), ("sing",), ("read", "a", "b"), ("read", "-o", "x"), ("item",),
+                      ("item", "x"), ("item", "-1"), ("item", "65536"), ("mark", "--short")):
             self.check(run(*words), 2, b"", "usage: tools/paper")
 
 
@@ -160,12 +162,22 @@ class Reading(Command):
         self.check(done, 1, done.stdout, "refused 1 by this aid, refused 3 by the marking program")
 
     def test_the_answer_in_words(self):
-        done = run("mark", data=b"a | a", program=self.program("fails 152\\n"))
-        self.check(done, 0, b"fails 152: a reason that the paper sets\n", "")
-        done = run("read", SMALLEST, program=self.program("fails 122\\n"))
-        words = (b"# fails 122: element, element: the minimum is below the base's "
-                 b"(docs/KEY.md, M2)\n")
-        self.check(done, 0, b"a | a(0,1)\n" + words, "")
+        done = run("mark", data=b"a | a", program=self.program("passes\\n"))
+        self.check(done, 0, b"passes: the derived tree restricts the base tree\n", "")
+        sheet = layout.encode(parse("a(0,1) | a"))
+        done = run("read", data=sheet, program=self.program("fails 122\\n"))
+        words = (b"# fails 122: element, element: the minimum is below the base's: 0 is below 1, "
+                 b"at a(0,1) | a (docs/KEY.md, M2)\n")
+        self.check(done, 0, b"a(0,1) | a\n" + words, "")
+
+    def test_another_mark(self):
+        """The mark is the program's; this aid has no reasons for it, and says so."""
+        said = "THE MARKS DIFFER: passes by this aid's reading of the rules, fails 152 by the"
+        for use in ("mark", "why"):
+            done = run(use, data=b"a | a", program=self.program("fails 152\\n"))
+            self.check(done, 1, b"fails 152: a reason that the paper sets\n", said)
+        done = run("read", SMALLEST, program=self.program("fails 152\\n"))
+        self.check(done, 1, b"a | a(0,1)\n# fails 152: a reason that the paper sets\n", said)
 
     def test_refused(self):
         done = run("read", data=SMALLEST.read_bytes() + b"\n", program=self.program("refused 1\\n"))
@@ -183,6 +195,21 @@ class Reading(Command):
         self.assertIn(f"\n# record 0 (from 0) of the derived tree, at byte {place}: "
                       f"byte {layout.RECORD_AT.zeros} (from 0) of the record is 9, not 0\n",
                       done.stdout.decode())
+
+
+class OtherVerbs(Command):
+    """A sheet where a paper is expected, and the other way round."""
+
+    def test_a_sheet_is_no_paper(self):
+        for use in ("mark", "why", "write", "join", "total", "emptiable", "tidy"):
+            self.check(run(use, SMALLEST), 1, b"", f"use `tools/paper read {SMALLEST}`")
+        self.check(run("mark", data=SMALLEST.read_bytes()), 1, b"", "use `tools/paper read`")
+
+    def test_a_paper_is_no_sheet(self):
+        paper = SAMPLES / "never.paper"
+        done = run("read", paper, program=self.program("refused 1\\n"))
+        self.check(done, 1, done.stdout, f"use `tools/paper mark {paper}`")
+        self.assertTrue(done.stdout.startswith(b"# refused 1: "))
 
 
 class Words(unittest.TestCase):
@@ -267,8 +294,30 @@ class Documents(unittest.TestCase):
         for line in GRAMMAR.splitlines():
             self.assertIn(f"    {line}\n" if line else "\n", readme)
 
+    def test_the_uses_are_the_same_everywhere(self):
+        readme = README.read_text(encoding="utf-8")
+        for use, words in USES.items():
+            self.assertRegex(readme, rf"    tools/paper {use} .*  {re.escape(words)}\n")
+
     @needs_marker
     @needs_joiner
+    @needs_describer
+    def test_the_first_page_says_what_happens(self):
+        """What README.md says of the lines that its commands print."""
+        page = (ROOT / "README.md").read_text(encoding="utf-8")
+        for command in ("echo 'S[a,b] | S[a,c,b]' | tools/paper mark", "tools/paper mark samples",
+                        "echo 'S[a,b] + - + c(0,1)' | tools/paper join",
+                        "echo 'S(0,65536)[a(65536,65536)]' | tools/paper total"):
+            with self.subTest(command=command):
+                self.assertIn(f"    {command}\n", page)
+                done = subprocess.run(["bash", "-c", command], cwd=ROOT, check=False,
+                                      capture_output=True)
+                self.assertIn(f"`{done.stdout.decode().splitlines()[-1]}`", page)
+
+    @needs_marker
+    @needs_joiner
+    @needs_describer
+    @needs_tree_programs
     def test_the_readme_says_what_happens(self):
         """Each command after a $, and the output below it."""
         readme = README.read_text(encoding="utf-8")

@@ -1,12 +1,26 @@
 """What `tools/paper --help` says of papers."""
 
 DESCRIPTION = (
-    "Turns a paper in document 01's notation into an exam sheet and back, joins trees that "
-    "extend one another, and tells total ranges."
+    "Marks papers in document 01's notation and says why each has its mark, turns a paper into "
+    "an exam sheet and back, and answers questions about trees alone."
 )
+
+# tools/README.md has these too; a test compares them.
+USES = {
+    "mark": "papers as text get their marks in words",
+    "why": "papers as text get their marks and every judgement behind them",
+    "write": "a paper as text becomes a sheet",
+    "read": "a sheet becomes a paper as text, with its mark in words",
+    "join": "a chain of trees, alone or as a paper's base, becomes one tree",
+    "total": "a tree or chain, or both trees of a paper, get total range and emptiness",
+    "emptiable": "likewise, whether it allows nothing at all",
+    "tidy": "likewise, the tidied tree",
+    "item": "likewise, the K-th item of the root, from 0",
+}
 
 # tools/README.md has these lines too; a test compares them.
 GRAMMAR = """\
+paper : NAME                 the paper's name, any text, where it has one
 DERIVED | BASE               the two trees, before all else
 leaves : LEAVES              every leaf, in the order of the leaf numbers
 LEAVES : name NUMBER         elements: the local name number, up to 65535
@@ -28,23 +42,24 @@ a verdict       ok (or 0), undecided (or 1), or a reason from 140 to 152
 """
 
 EPILOG = f"""\
-A paper has one statement to a line; while a bracket is open, a tree goes on in
-the next. # starts a comment, and blanks may stand between letters, numbers and
-signs.
+A paper has one statement to a line; a tree goes on in the next line while a
+bracket is open, after | or +, and where the next line begins with one of these.
+# starts a comment, and blanks may stand between letters, numbers and signs.
 
 {GRAMMAR}
 Where nothing else is said, equal leaves are ok and others 140 in both tables,
 an element's name number is its place among the leaves (from 0), process
 contents are skip, and the leaves are those of the trees as they turn up.
 
-The mark is that of the marking program, target/bin/marker, which
-`rt check marker` builds; MARKER names another. A chain is joined by the program
-target/bin/join, which `rt check join` builds; JOIN names another. `join` takes
-a paper without DERIVED | too, and puts the joined tree in the chain's place.
-`total` takes the same; the range is that of the program target/bin/describe,
-which `rt check describe` builds; DESCRIBE names another. A number above
-4294967295 is 'too large', and only what has no bound is 'unbounded'.
+`mark` and `why` take files, folders of files *.paper, and several papers in a
+file, parted by a blank line or by lines `paper : NAME`. `join`, `total`,
+`emptiable`, `tidy` and `item` take a paper without DERIVED | too. A number
+above 4294967295 is 'too large', and only what has no bound is 'unbounded'.
 
-Exit status: 0 fine; 1 wrong notation or a refused sheet; 2 bad usage, a file
-that can't be read or written, or no answer since a program is missing.
+The answers are those of the proved programs marker, join, describe, tidy and
+item, which `rt check` builds; MARKER, JOIN, DESCRIBE, TIDY and ITEM name others.
+
+Exit status: 0 fine; 1 wrong notation, a refused sheet, or a program that
+disagrees; 2 bad usage, a file that can't be read or written, or no answer since
+a program is missing.
 """

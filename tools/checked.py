@@ -1,0 +1,97 @@
+"""What the proved programs answer, held to this aid's own reading: where the two
+differ, the command ends and says so."""
+
+import chain
+import describer
+import marker
+import treewriters
+from files import UNUSABLE, WRONG, Stop
+from notation import tree_text
+from proved import ITEM, JOIN, TIDY, NoAnswer
+from refusals import Refused
+from tidying import emptiable, tidy
+from total import total
+
+NO_CONTENT = "no content"
+
+
+def joined(paper):
+    """The tree of a paper's chain, None for no content."""
+    levels = paper.chain.levels
+    return same_tree(paper, "joined tree", JOIN, chain.join(levels),
+                     lambda: treewriters.join(levels, paper.leaves))
+
+
+def tidied(paper, tree):
+    return same_tree(paper, "tidied tree", TIDY, tidy(tree),
+                     lambda: treewriters.tidy(tree, paper.leaves))
+
+
+def item(paper, tree, k):
+    """The root's k-th item, from 0, None where there is none."""
+    here = tree.items[k] if k < len(tree.items) else None
+    return same_tree(paper, "item", ITEM, here, lambda: treewriters.item(tree, k, paper.leaves))
+
+
+def same_tree(paper, what, program, here, ask):
+    """A program's tree, which must be the one here."""
+    def words(tree):
+        return NO_CONTENT if tree is None else tree_text(tree, paper.names)
+
+    def differ(there):
+        return Stop(WRONG, f"the {what} is {words(here)} by this aid, {there} by {program.called}")
+
+    try:
+        there = ask()
+    except NoAnswer as none:
+        raise Stop(UNUSABLE, f"no {what}: {none}") from none
+    except Refused as refused:
+        raise differ(f"refused {refused.number}") from refused
+    if there != here:
+        raise differ(words(there))
+    return there
+
+
+def description(tree):
+    """The describing program's total range and emptiness."""
+    here = describer.Description(total(tree), emptiable(tree))
+    try:
+        given = describer.describe(tree)
+    except NoAnswer as none:
+        raise Stop(UNUSABLE, f"no total range: {none}") from none
+    if given != here:
+        raise Stop(WRONG, f"the total range is {here.total} by this aid, {given.total} by the "
+                   "describing program, or they disagree about emptiness")
+    return given
+
+
+def mark(data, refusal=None):
+    """The marking program's mark of a sheet, which is refused here by this."""
+    try:
+        given = marker.mark(data)
+    except NoAnswer as none:
+        raise Stop(UNUSABLE, f"no mark: {none}") from none
+    same_refusal(given, refusal)
+    return given
+
+
+def marks(sheets):
+    """The marking program's marks of sheets that are accepted here."""
+    if len(sheets) == 1:
+        return [mark(sheets[0])]
+    try:
+        given = marker.mark_many(sheets)
+    except NoAnswer as none:
+        raise Stop(UNUSABLE, f"no mark: {none}") from none
+    for one in given:
+        same_refusal(one, None)
+    return given
+
+
+def same_refusal(given, refusal):
+    """The program must refuse what is refused here, by the same number, and
+    nothing else."""
+    here = str(refusal) if refusal else "accepted"
+    there = str(given) if given.word == "refused" else "accepted"
+    if here != there:
+        raise Stop(WRONG, f"the sheet is {here} by this aid, {there} by the marking program")

@@ -1,0 +1,186 @@
+"""Marking papers, one or many: each with the words that fit its mark, or with
+every judgement behind it."""
+
+import csv
+import io
+import sys
+from collections import Counter
+from typing import List, NamedTuple, Optional
+
+import checked
+import draft
+import layout
+import why
+from faults import PaperError
+from files import FINE, UNUSABLE, WRONG, Stop, put_text, shown
+from judgement import Node, Subject
+from marker import Mark
+from papers import Entry, Part, entries_of, files_of
+from rules import Judge
+from tidying import tidy
+
+# What becomes of a paper besides the marking program's words.
+WRONG_NOTATION, NOT_READ = "wrong notation", "not read"
+COUNTED = {
+    "passes": ("passes", "pass"), "fails": ("fails", "fail"),
+    "undecided": ("undecided", "undecided"),
+    WRONG_NOTATION: ("in wrong notation", "in wrong notation"), NOT_READ: ("not read", "not read"),
+}
+COLUMNS = ("file", "paper", "line", "mark", "number", "rules", "words")
+
+
+class Result(NamedTuple):
+    """What became of one paper."""
+
+    entry: Entry
+    mark: Mark
+    words: str
+    rules: List[str] = []
+    # Of a paper that has a mark, unless it passes and nobody asks why.
+    subject: Optional[Subject] = None
+    node: Optional[Node] = None
+    status: int = FINE
+    # The whole message of a paper that has no mark.
+    message: str = ""
+
+    @property
+    def line(self):
+        rules = f" ({why.KEY}, {', '.join(self.rules)})" if self.rules else ""
+        return f"{self.mark}: {self.words}{rules}"
+
+
+def mark(options):
+    """One line for each paper."""
+    files, others = files_of(options.files)
+    results = results_of(files, explained=False)
+    if options.csv:
+        put_text(table(results))
+        print("\n".join([*others, count(results)]), file=sys.stderr)
+    elif is_one(options, results):
+        put_one(results[0], [])
+    else:
+        lines = [f"{result.entry.label}: {result.line}" for result in results]
+        put_text("\n".join([*lines, count(results)]) + "\n")
+        put_others(others)
+    return max(result.status for result in results)
+
+
+def reasons(options):
+    """Every judgement of each paper, or the path to the one that decides."""
+    files, others = files_of(options.files)
+    results = results_of(files, explained=True)
+    if is_one(options, results):
+        put_one(results[0], judgements(results[0], options.short))
+        return results[0].status
+    for result in results:
+        lines = [f"{result.entry.label}: {result.line}", *judgements(result, options.short)]
+        put_text("\n".join(lines) + "\n\n")
+    put_text(f"{count(results)}\n")
+    put_others(others)
+    return max(result.status for result in results)
+
+
+def is_one(options, results):
+    """Whether one paper of one file was asked for."""
+    return len(results) == 1 and options.files in ([], [results[0].entry.file], ["-"])
+
+
+def put_one(result, lines):
+    if result.message:
+        raise Stop(result.status, result.message)
+    put_text("\n".join([result.line, *lines]) + "\n")
+
+
+def put_others(others):
+    for line in others:
+        print(line, file=sys.stderr)
+
+
+def results_of(files, explained):
+    """What becomes of each paper of the files, in order. The marking program
+    marks all of them in one run."""
+    read = [result for name in files for result in read_file(name)]
+    marked = iter(checked.marks([layout.encode(result.subject.sheet) for result in read
+                                 if result.subject]))
+    return [with_mark(result, next(marked), explained) if result.subject else result
+            for result in read]
+
+
+def read_file(name):
+    """The papers of a file, not yet marked, or why they can't be."""
+    try:
+        return [read_entry(entry) for entry in entries_of(name)]
+    except Stop as stop:
+        what = NOT_READ if stop.status == UNUSABLE else WRONG_NOTATION
+        entry = Entry(shown(name), Part("", 1, ""), True)
+        return [Result(entry, Mark(what, None), str(stop), status=stop.status, message=str(stop))]
+
+
+def read_entry(entry):
+    try:
+        subject = draft.read(entry.part.text).subject(checked.joined)
+    except PaperError as error:
+        report = error.report(entry.file, entry.part.text)
+        return Result(entry, Mark(WRONG_NOTATION, None), error.in_a_line(), status=WRONG,
+                      message=report)
+    return Result(entry, None, "", subject=subject)
+
+
+def with_mark(result, given, explained):
+    """The paper with the marking program's mark and the words that fit it. The
+    reading here must come to the same mark."""
+    if given.word == "passes" and not explained:
+        return result._replace(mark=given, words=why.in_words("passes", None))
+    node = Judge(result.subject).whole()
+    if node.mark != given:
+        words = why.in_words(given.word, given.number)
+        print(difference(result.entry, node.mark, given), file=sys.stderr)
+        return result._replace(mark=given, words=words, status=WRONG, node=None)
+    words = why.Words(result.subject, node)
+    return result._replace(mark=given, words=words.text, rules=words.rules, node=node)
+
+
+def difference(entry, here, there):
+    return (f"{entry.label}: THE MARKS DIFFER: {here} by this aid's reading of the rules, {there} "
+            "by the marking program, which is proved. The reasons of this aid are wrong here: "
+            "please report this paper.")
+
+
+def judgements(result, short):
+    """The lines below a mark; none where this aid has no reasons for it."""
+    if not result.node:
+        return []
+    if short:
+        return why.short_lines(result.subject, result.node)
+    return [*tidied(result.subject), *why.lines(result.subject, result.node)]
+
+
+def tidied(subject):
+    """What tidying changed."""
+    found = []
+    for which, tree in (("derived", subject.sheet.derived), ("base", subject.sheet.base)):
+        if tidy(tree) != tree:
+            found.append(f"the {which} tree tidied (D1 to D6): {subject.text(tidy(tree))}")
+    return found
+
+
+def count(results):
+    """How many papers there are, and how many of each mark."""
+    marks = Counter(result.mark.word for result in results)
+    said = [f"{marks[word]} {one if marks[word] == 1 else more}"
+            for word, (one, more) in COUNTED.items() if marks[word]]
+    papers = "1 paper" if len(results) == 1 else f"{len(results)} papers"
+    return f"{papers}: {', '.join(said)}"
+
+
+def table(results):
+    """The results as comma-separated values."""
+    text = io.StringIO()
+    writer = csv.writer(text, lineterminator="\n")
+    writer.writerow(COLUMNS)
+    for result in results:
+        entry = result.entry
+        number = "" if result.mark.number is None else result.mark.number
+        writer.writerow([entry.file, entry.part.name, entry.part.line, result.mark.word, number,
+                         " ".join(result.rules), result.words])
+    return text.getvalue()

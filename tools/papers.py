@@ -1,0 +1,83 @@
+"""The papers of a file: one, or several that are parted by blank lines or by
+lines `paper : NAME`; and the files of a folder."""
+
+from pathlib import Path
+from typing import NamedTuple
+
+from files import STANDARD, UNUSABLE, Stop, shown, text_of
+from statements import NameLine, scanned
+
+SUFFIX = ".paper"
+
+
+class Part(NamedTuple):
+    """One paper of a text. Its text has the lines before it blank, so that each
+    line keeps its number."""
+
+    # Empty where no line names it.
+    name: str
+    # Where its first statement stands, from 1.
+    line: int
+    text: str
+
+
+class Entry(NamedTuple):
+    """One paper to be marked."""
+
+    file: str
+    part: Part
+    # Whether its file has no other.
+    alone: bool
+
+    @property
+    def label(self):
+        if self.part.name:
+            return f"{self.file}, {self.part.name}"
+        return self.file if self.alone else f"{self.file}:{self.part.line}"
+
+
+def split(text):
+    """The papers of a text, at least one. A statement without ':', that is two
+    trees, begins another paper where a blank line stands before it."""
+    lines = text.split("\n")
+    # Of each paper its name and its first statement's line; of the last one
+    # also whether it has its trees.
+    begun, has_trees, last = [], False, 0
+    for statement in scanned(lines):
+        named = isinstance(statement, NameLine)
+        trees = not named and not statement.has(":")
+        apart = any(not line.strip() for line in lines[last:statement.line - 1])
+        if named or not begun or (trees and has_trees and apart):
+            begun.append((statement.name if named else "", statement.line))
+            has_trees = trees
+        has_trees = has_trees or trees
+        last = statement.last_line
+    begun = begun or [("", 1)]
+    ends = [line - 1 for _, line in begun[1:]] + [len(lines)]
+    return [Part(name, line, "\n" * (line - 1) + "\n".join(lines[line - 1:end]))
+            for (name, line), end in zip(begun, ends)]
+
+
+def files_of(names):
+    """The files, those of folders among them; standard input where none is
+    named. Says also which folders have other files besides papers."""
+    files, others = [], []
+    for name in names or [STANDARD]:
+        if name == STANDARD or not Path(name).is_dir():
+            files.append(name)
+            continue
+        inside = sorted(file for file in Path(name).iterdir() if file.is_file())
+        papers = [str(file) for file in inside if file.suffix == SUFFIX]
+        if not papers:
+            raise Stop(UNUSABLE, f"{name}: no file *{SUFFIX} in this folder")
+        if len(papers) < len(inside):
+            others.append(f"{name}: {len(inside) - len(papers)} other files are left alone, "
+                          f"only *{SUFFIX} are read")
+        files += papers
+    return files, others
+
+
+def entries_of(name):
+    """The papers of a file."""
+    parts = split(text_of(name))
+    return [Entry(shown(name), part, len(parts) == 1) for part in parts]
