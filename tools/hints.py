@@ -11,6 +11,10 @@ LONG_NAME = (
     "a leaf is one letter, or a letter and a number, as a, b or a1; commas part leaves, and a "
     "comment can say what each stands for, as '# a white  b black'"
 )
+ONE_TREE = (
+    "a paper has two trees, DERIVED | BASE; `join`, `total`, `emptiable`, `tidy` and `item` take "
+    "one alone"
+)
 GROUP_WORDS = {"sequence": "S", "seq": "S", "choice": "C", "all": "A"}
 
 
@@ -19,6 +23,8 @@ def hint_at(token, before, wanted):
     was wanted; None where nothing can be guessed."""
     if token.text == "(" and before and before.text == "]":
         return PAIR_FIRST
+    if not token.text and wanted[-1] == "'|'":
+        return ONE_TREE
     if A_LEAF not in wanted or not token.text[:1].isalpha():
         return None
     if token.text.lower() in GROUP_WORDS:

@@ -115,6 +115,7 @@ HINTED = [
     ("a | b\nc | d", "parted by a blank line"),
     ("a | b\nS[a] | S[b]", "parted by a blank line"),
     ("a | b\na | b : ok\nS[a,b] | b", "'paper : NAME'"),
+    ("S[a,b]", "take one alone"),
     ("a | b\na | b ok :", None),
     ("S[a b] | a", None),
     ("S[a] | 5", None),

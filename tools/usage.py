@@ -13,7 +13,7 @@ USES = {
     "read": "a sheet becomes a paper as text, with its mark in words",
     "join": "a chain of trees, alone or as a paper's base, becomes one tree",
     "total": "a tree or chain, or both trees of a paper, get total range and emptiness",
-    "emptiable": "likewise, whether it allows nothing at all",
+    "emptiable": "likewise, whether it may be empty",
     "tidy": "likewise, the tidied tree",
     "item": "likewise, the K-th item of the root, from 0",
 }

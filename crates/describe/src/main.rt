@@ -2,17 +2,10 @@
 // `emptiable no`, or `refused N`. MIN is a number or `too large`, MAX a number, `too large` or `unbounded`.
 use entries::EmptiableAnswer;
 use entries::TotalAnswer;
-use intake::Refusal;
 use libc::STDOUT_FILENO;
 use totals::TotalMax;
 use totals::TotalMin;
 use totals::TotalRange;
-
-fn print_refused(r: Refusal) {
-    io::write_all(STDOUT_FILENO, b"refused ");
-    io::print_decimal(STDOUT_FILENO, intake::number(r) as u64);
-    io::write_all(STDOUT_FILENO, b"\n");
-}
 
 fn print_min(m: TotalMin) {
     match m {
@@ -63,7 +56,7 @@ fn print_emptiable(t: &[u8]) {
 
 fn describe(t: &[u8]) {
     match entries::total_range(t) {
-        TotalAnswer::Refused(r) => print_refused(r),
+        TotalAnswer::Refused(r) => streams::print_refused(STDOUT_FILENO, r),
         TotalAnswer::Total(o) => {
             print_total(o);
             print_emptiable(t);

@@ -3,7 +3,6 @@
 ghost use mathlib.Core.Path.{_≡_};
 ghost use Rattle.particle.specs.Record.{half};
 use entries::EmptiableAnswer;
-use intake::Refusal;
 use libc::STDERR_FILENO;
 use libc::STDIN_FILENO;
 use libc::STDOUT_FILENO;
@@ -18,16 +17,10 @@ fn item_number(head: &[u8; NUMBER]) -> usize
     particle::read_u16(head, 0) as usize
 }
 
-fn print_refused(r: Refusal) {
-    io::write_all(STDERR_FILENO, b"refused ");
-    io::print_decimal(STDERR_FILENO, intake::number(r) as u64);
-    io::write_all(STDERR_FILENO, b"\n");
-}
-
 // Why t has no such item. The entries for one tree refuse alike, so another one tells the refusal.
 fn print_why(t: &[u8]) {
     match entries::emptiable(t) {
-        EmptiableAnswer::Refused(r) => print_refused(r),
+        EmptiableAnswer::Refused(r) => streams::print_refused(STDERR_FILENO, r),
         _ => {
             io::write_all(STDERR_FILENO, b"no item\n");
         }

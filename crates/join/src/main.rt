@@ -1,26 +1,8 @@
 // The joining program: one chain on standard input, the bytes of its joined tree on standard output. Where there is none, a line on standard
 // error says why: `no content` or `refused N`.
 use chain::JoinedAnswer;
-use intake::Refusal;
 use libc::STDERR_FILENO;
 use libc::STDIN_FILENO;
-use libc::STDOUT_FILENO;
-use particle::MAX_RECORDS;
-use particle::RECORD_SIZE;
-
-// The tree of k records at the start of t. No joined tree has more than MAX_RECORDS.
-fn print_tree(t: &[u8], k: usize) {
-    if k <= MAX_RECORDS {
-        let n = io::count((RECORD_SIZE * k) as isize, t);
-        io::write_all(STDOUT_FILENO, &t[..n]);
-    }
-}
-
-fn print_refused(r: Refusal) {
-    io::write_all(STDERR_FILENO, b"refused ");
-    io::print_decimal(STDERR_FILENO, intake::number(r) as u64);
-    io::write_all(STDERR_FILENO, b"\n");
-}
 
 // Both buffers are longer than any chain that is joined, and than any tree; longer input is cut off there, and refused.
 fn main() {
@@ -28,10 +10,10 @@ fn main() {
     let n = io::read_full(STDIN_FILENO, &mut buf);
     let mut out = io::large_buffer();
     match chain::effective_particle(&buf[..n], &mut out) {
-        JoinedAnswer::Records(k) => print_tree(&out, k),
+        JoinedAnswer::Records(k) => streams::print_tree(&out, k),
         JoinedAnswer::NoContent => {
             io::write_all(STDERR_FILENO, b"no content\n");
         }
-        JoinedAnswer::Refused(r) => print_refused(r),
+        JoinedAnswer::Refused(r) => streams::print_refused(STDERR_FILENO, r),
     }
 }

@@ -3,8 +3,8 @@
 // line for each, in order. With any other arguments it marks nothing, and says on standard error how it is used.
 ghost use mathlib.Core.Path.{_≡_};
 ghost use mathlib.Core.Bool.{true};
-ghost use Prim.Native.Nat.{_≤_, _<_};
-ghost use lib.ListN.{length, take};
+ghost use Prim.Native.Nat.{_<_};
+ghost use lib.ListN.{take};
 ghost use Rattle.io.specs.Counts.{Counts};
 ghost use Rattle.particle.specs.Record.{half};
 ghost use Rattle.marking.specs.Answer.{markMeaning, markSheet};
@@ -37,8 +37,8 @@ enum Outcome {
     Ended,
 }
 
-fn print_line(word: &[u8], n: u32) {
-    io::write_all(STDOUT_FILENO, word);
+fn print_fails(n: u32) {
+    io::write_all(STDOUT_FILENO, b"fails ");
     io::print_decimal(STDOUT_FILENO, n as u64);
     io::write_all(STDOUT_FILENO, b"\n");
 }
@@ -51,8 +51,8 @@ fn print_mark(m: MarkAnswer) {
         MarkAnswer::Undecided => {
             io::write_all(STDOUT_FILENO, b"undecided\n");
         }
-        MarkAnswer::Fails(r) => print_line(b"fails ", verdicts::reason_number(r)),
-        MarkAnswer::Refused(r) => print_line(b"refused ", intake::number(r)),
+        MarkAnswer::Fails(r) => print_fails(verdicts::reason_number(r)),
+        MarkAnswer::Refused(r) => streams::print_refused(STDOUT_FILENO, r),
     }
 }
 
@@ -69,14 +69,6 @@ fn sheet_length(head: &[u8; LENGTH]) -> usize
     ensures { λ r. ⌜ r < 65536 ⌝ }
 {
     particle::read_u16(head, 0) as usize
-}
-
-// Reads n bytes to the start of buf; false where the input ends before.
-fn filled(buf: &mut [u8], n: usize) -> bool
-    requires { ⌜ n ≤ length (now buf) ⌝ }
-    ensures { λ _. ⌜ Counts n (now (buf .exit)) ⌝ }
-{
-    io::read_full(STDIN_FILENO, &mut buf[..n]) == n
 }
 
 // The mark of the first n bytes of buf, whatever an earlier sheet left after them.
@@ -98,7 +90,7 @@ fn mark_next(buf: &mut [u8; ROOM]) -> Outcome {
         return Outcome::CutOff;
     }
     let n = sheet_length(&head);
-    if !filled(buf, n) {
+    if !streams::filled(buf, n) {
         return Outcome::CutOff;
     }
     print_mark(mark_first(buf, n));

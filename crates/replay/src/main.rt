@@ -15,7 +15,6 @@
 ghost use mathlib.Core.Path.{_≡_};
 ghost use Prim.Native.Nat.{_+_, _≤_, _<_};
 ghost use lib.ListN.{length};
-ghost use Rattle.io.specs.Counts.{Counts};
 ghost use Rattle.replay.specs.Expected.{numberOf, bufferOf, Agrees};
 use libc::STDIN_FILENO;
 use libc::STDOUT_FILENO;
@@ -120,14 +119,6 @@ fn judge(op: Operation, input: &[u8], lent: &mut [u8], stored: u64, after: &[u8]
     }
 }
 
-// Reads n bytes to the start of buf; false where the input ends before.
-fn filled(buf: &mut [u8], n: usize) -> bool
-    requires { ⌜ n ≤ length (now buf) ⌝ }
-    ensures { λ _. ⌜ Counts n (now (buf .exit)) ⌝ }
-{
-    io::read_full(STDIN_FILENO, &mut buf[..n]) == n
-}
-
 // Reads what comes after the head, and replays the case.
 fn replay_body(
     op: Operation,
@@ -142,13 +133,13 @@ fn replay_body(
 {
     let n = read_u16(head, 3);
     let room = read_u16(head, 5);
-    if !filled(input, n) {
+    if !streams::filled(input, n) {
         return Outcome::CutOff;
     }
-    if !filled(lent, room) {
+    if !streams::filled(lent, room) {
         return Outcome::CutOff;
     }
-    if !filled(after, room) {
+    if !streams::filled(after, room) {
         return Outcome::CutOff;
     }
     judge(

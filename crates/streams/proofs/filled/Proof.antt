@@ -1,4 +1,4 @@
--- `replay::filled` meets its contract. Assumes nothing.
+-- `streams::filled` meets its contract. Assumes nothing.
 use mathlib.Core.Path.{_≡_, sym}
 use mathlib.Core.List.{List}
 use Prim.Native.Nat.{ℕ, _≤_}
@@ -6,8 +6,8 @@ use native.Mathlib.Omega.{arith}
 use borrow.Author.Needs.{needs}
 use lib.ListN.{length, take}
 use lib.Seq.{length-take-le}
-use Rattle.replay.proofs.filled.Statement.{statement}
-use Rattle.replay.proofs.filled.Tie as tie
+use Rattle.streams.proofs.filled.Statement.{statement}
+use Rattle.streams.proofs.filled.Tie as tie
 
 count-is : (n : ℕ) (l : List ℕ) → n ≤ length l → n ≡ length (take n l)
 count-is n l h = sym (length-take-le n l h)
