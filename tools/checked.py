@@ -19,7 +19,7 @@ def joined(paper):
     """The tree of a paper's chain, None for no content."""
     levels = paper.chain.levels
     return same_tree(paper, "joined tree", JOIN, chain.join(levels),
-                     lambda: treewriters.join(levels, paper.leaves))
+                     lambda: treewriters.join(levels, paper.leaves), NO_CONTENT)
 
 
 def tidied(paper, tree):
@@ -33,10 +33,10 @@ def item(paper, tree, k):
     return same_tree(paper, "item", ITEM, here, lambda: treewriters.item(tree, k, paper.leaves))
 
 
-def same_tree(paper, what, program, here, ask):
+def same_tree(paper, what, program, here, ask, without="none"):
     """A program's tree, which must be the one here."""
     def words(tree):
-        return NO_CONTENT if tree is None else tree_text(tree, paper.names)
+        return without if tree is None else tree_text(tree, paper.names)
 
     def differ(there):
         return Stop(WRONG, f"the {what} is {words(here)} by this aid, {there} by {program.called}")

@@ -64,12 +64,12 @@ def read(options):
     try:
         sheet = refusals.read(data)
     except refusals.Refused as refused:
+        if is_text(data):
+            raise Stop(WRONG, f"{shown(options.file)}: expected a sheet's bytes, found text: if it "
+                       f"is a paper, use `tools/paper mark{argument(options.file)}`") from refused
         refusal = marker.Mark("refused", refused.number)
         put_text(f"# {refusal.in_words()}\n# {refused.place}\n")
         checked.mark(data, refusal)
-        if is_text(data):
-            raise Stop(WRONG, f"{shown(options.file)}: this looks like a paper as text: use "
-                       f"`tools/paper mark{argument(options.file)}`") from refused
         return WRONG
     put_text(printed.paper_text(sheet))
     return put_mark_of(sheet, checked.mark(data))
@@ -81,8 +81,7 @@ def put_mark_of(sheet, given):
     node = Judge(subject).whole() if given.word != "passes" else None
     if node and node.mark != given:
         put_text(f"# {given.in_words()}\n")
-        entry = many.Entry("the sheet", many.Part("", 1, ""), True)
-        raise Stop(WRONG, many.difference(entry, node.mark, given))
+        raise Stop(WRONG, many.difference("the sheet", node.mark, given))
     put_text(f"# {given}: {Words(subject, node)}\n" if node else f"# {given.in_words()}\n")
     return FINE
 

@@ -5,7 +5,7 @@ from typing import FrozenSet, List, NamedTuple, Optional, Tuple
 
 import chain
 from faults import PaperError, Token
-from hints import SEVERAL
+from hints import SEVERAL, VERDICT, VERDICT_WORDS
 from judgement import Subject
 from notation import LeafNames, TreeReader, leaf_kind
 from scanner import Scanner
@@ -36,7 +36,7 @@ class Paper(NamedTuple):
         levels = self.chain.levels
         base = levels[0] if len(levels) == 1 else join(self)
         sheet = Sheet(self.leaves, self.first, self.second, self.derived, base)
-        return Subject(sheet, self.names, self.is_set)
+        return Subject(sheet, self.names, self.is_set, len(levels) > 1)
 
 
 def parse(text, join=lambda paper: chain.join(paper.chain.levels)):
@@ -68,12 +68,14 @@ def read(text, alone=False):
 
 
 def statement_of(scanner):
-    """A statement after the trees. Without ':' it is none, but looks like trees."""
+    """A statement after the trees. Without ':' it is none, but looks like trees,
+    or like a verdict."""
     try:
         return read_statement(scanner)
     except PaperError as error:
-        if scanner.has("|") and not scanner.has(":"):
-            error.hint = SEVERAL
+        if not scanner.has(":"):
+            a_verdict = any(map(scanner.has, VERDICT_WORDS))
+            error.hint = VERDICT if a_verdict else SEVERAL
         raise
 
 

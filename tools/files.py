@@ -1,6 +1,7 @@
 """What the command reads and writes, and how it ends."""
 
 import os
+import sys
 
 FINE, WRONG, UNUSABLE = 0, 1, 2
 # Stands for standard input and standard output.
@@ -8,6 +9,7 @@ STANDARD = "-"
 STANDARD_INPUT, STANDARD_OUTPUT = 0, 1
 # No text has this byte, and every sheet does.
 NO_TEXT = b"\0"
+UTF_16 = (b"\xff\xfe", b"\xfe\xff")
 BREAKS = "\t\n\r\f\v"
 
 
@@ -24,6 +26,8 @@ def shown(name):
 
 
 def content(name):
+    if name == STANDARD and os.isatty(STANDARD_INPUT):
+        print("reading standard input up to its end (Ctrl-D)", file=sys.stderr)
     try:
         with open(STANDARD_INPUT if name == STANDARD else name, "rb") as file:
             return file.read()
@@ -35,11 +39,14 @@ def content(name):
 def text_of(name):
     """The text in a file; a sheet is none."""
     data = content(name)
+    if data.startswith(UTF_16):
+        raise Stop(WRONG, f"{shown(name)}: expected text in UTF-8, found UTF-16: save it as UTF-8")
     if NO_TEXT in data:
         raise Stop(WRONG, f"{shown(name)}: expected a paper as text, found bytes: "
                    f"if they are a sheet's, use `tools/paper read{argument(name)}`")
     try:
-        return data.decode("utf-8-sig")
+        text = data.decode("utf-8-sig")
+        return text if "\n" in text else text.replace("\r", "\n")
     except UnicodeDecodeError as error:
         before = error.object[:error.start].decode().split("\n")
         place = f"{shown(name)}:{len(before)}:{len(before[-1]) + 1}"
@@ -73,10 +80,14 @@ def put(data, name):
     try:
         with open(STANDARD_OUTPUT if standard else name, "wb", closefd=not standard) as file:
             file.write(data)
+    except BrokenPipeError:
+        # Whoever reads the output has seen enough.
+        raise SystemExit(UNUSABLE) from None
     except OSError as error:
         what = "standard output" if standard else name
         raise Stop(UNUSABLE, f"{what}: {error.strerror}") from error
 
 
 def put_text(text):
-    put(text.encode(), STANDARD)
+    # A file's name may be no text.
+    put(text.encode("utf-8", "surrogateescape"), STANDARD)

@@ -1,33 +1,69 @@
 """Hints for mistakes in a paper that are easily made."""
 
 A_LEAF = "a leaf (a letter such as a, w or a1)"
+END = "the end of the line"
 
 PAIR_FIRST = "a group's pair stands before its items, as in S(0,1)[a,b]"
 SEVERAL = (
-    "this looks like two trees again: papers in one file are parted by a blank line or by a line "
+    "this looks like trees again: papers in one file are parted by a blank line or by a line "
     "'paper : NAME', and `mark` and `why` take several"
 )
 LONG_NAME = (
-    "a leaf is one letter, or a letter and a number, as a, b or a1; commas part leaves, and a "
-    "comment can say what each stands for, as '# a white  b black'"
+    "a leaf is one letter from a to z, or one and a number, as a, b or a1; commas part leaves, and "
+    "a comment can say what each stands for, as '# a white  b black'"
 )
 ONE_TREE = (
     "a paper has two trees, DERIVED | BASE; `join`, `total`, `emptiable`, `tidy` and `item` take "
     "one alone"
 )
+TREES_FIRST = "the two trees stand before all else but the paper's name"
+NAMING = "a line that names a paper is written 'paper : NAME', without capitals"
+VERDICT = "a verdict stands after ':', as in b | c : ok"
+SMALL_LEAVES = "S, C and A are groups, with their items in brackets; leaves are small letters"
+CAPITAL_GROUPS = "groups are capital letters: S (sequence), C (choice), A (all)"
+HOW_OFTEN = "how often is said by a pair of minimum and maximum, as in a(0,1), a(1,*) or a(2,2)"
 GROUP_WORDS = {"sequence": "S", "seq": "S", "choice": "C", "all": "A"}
+VERDICT_WORDS = ("ok", "undecided", "first", "second")
+# What a sign in place of another stands for, most likely.
+INSTEAD = {";": "commas part items, as in S[a,b]", "*": HOW_OFTEN, "?": HOW_OFTEN}
 
 
 def hint_at(token, before, wanted):
     """What to write where this token stands after that one and something else
     was wanted; None where nothing can be guessed."""
-    if token.text == "(" and before and before.text == "]":
+    after = before.text if before else ""
+    if token.text == "(" and after == "]":
         return PAIR_FIRST
-    if not token.text and wanted[-1] == "'|'":
+    if token.text == "[" and after in ("s", "c", "a"):
+        return CAPITAL_GROUPS
+    if "'['" in wanted and after in ("S", "C", "A"):
+        return SMALL_LEAVES
+    if wanted == ["'*'", "a number"] or (wanted == ["','"] and token.text == ")"):
+        return HOW_OFTEN
+    if wanted[-1] in ("'|'", END):
+        return hint_after_trees(token, wanted)
+    return hint_for_leaf(token) if A_LEAF in wanted else INSTEAD.get(token.text)
+
+
+def hint_after_trees(token, wanted):
+    """Where a tree has ended, or a statement."""
+    in_trees = "'+'" in wanted or wanted[-1] == "'|'"
+    if not token.text:
         return ONE_TREE
-    if A_LEAF not in wanted or not token.text[:1].isalpha():
+    if token.text in VERDICT_WORDS and in_trees:
+        return VERDICT
+    return TREES_FIRST if token.text == ":" and in_trees else INSTEAD.get(token.text)
+
+
+def hint_for_leaf(token):
+    """Where a leaf is wanted."""
+    word = token.text
+    if word.lower() == "paper":
+        return NAMING
+    if word.lower() in GROUP_WORDS:
+        return f"groups are S (sequence), C (choice) and A (all), here {GROUP_WORDS[word.lower()]}"
+    if not word[:1].isalpha():
         return None
-    if token.text.lower() in GROUP_WORDS:
-        letter = GROUP_WORDS[token.text.lower()]
-        return f"groups are S (sequence), C (choice) and A (all), here {letter}"
-    return LONG_NAME if token.text[1:2].isalpha() else None
+    if len(word) == 1 and word.isascii():
+        return SMALL_LEAVES
+    return LONG_NAME if word[1:2].isalpha() or not word.isascii() else None

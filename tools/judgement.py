@@ -33,6 +33,8 @@ class Outcome(NamedTuple):
     steps: List["Step"] = []
     # The step whose mark this one is; None where the rule itself decides.
     decides: Optional[int] = None
+    # The rule by which that step makes it undecided.
+    carried: str = ""
 
 
 class Node(NamedTuple):
@@ -68,7 +70,7 @@ class Step(NamedTuple):
     after: str = ""
     # Which particle was put in a group for it; empty where none was.
     wrapped: str = ""
-    # Whether the walk goes on past the base item.
+    # Whether the base item was skipped after a failure.
     skips: bool = False
 
 
@@ -79,6 +81,8 @@ class Subject(NamedTuple):
     sheet: Sheet
     names: List[str]
     is_set: frozenset
+    # Whether the base was a chain.
+    is_joined: bool = False
 
     def text(self, tree, longest=LONGEST):
         text = tree_text(tree, self.names)

@@ -18,7 +18,10 @@ from marker import Mark
 from papers import Entry, Part, entries_of, files_of
 from rules import Judge
 from tidying import tidy
+from words import in_words
 
+# A whole tree's text is cut after so many characters.
+LONGEST_WHOLE = 200
 # What becomes of a paper besides the marking program's words.
 WRONG_NOTATION, NOT_READ = "wrong notation", "not read"
 COUNTED = {
@@ -36,7 +39,7 @@ class Result(NamedTuple):
     mark: Mark
     words: str
     rules: List[str] = []
-    # Of a paper that has a mark, unless it passes and nobody asks why.
+    # Of a paper that has a mark; its judgements where they are asked for.
     subject: Optional[Subject] = None
     node: Optional[Node] = None
     status: int = FINE
@@ -45,8 +48,7 @@ class Result(NamedTuple):
 
     @property
     def line(self):
-        rules = f" ({why.KEY}, {', '.join(self.rules)})" if self.rules else ""
-        return f"{self.mark}: {self.words}{rules}"
+        return f"{self.mark}: {why.with_rules(self.words, self.rules)}"
 
 
 def mark(options):
@@ -55,13 +57,13 @@ def mark(options):
     results = results_of(files, explained=False)
     if options.csv:
         put_text(table(results))
-        print("\n".join([*others, count(results)]), file=sys.stderr)
+        put_messages([*others, count(results)])
     elif is_one(options, results):
         put_one(results[0], [])
     else:
+        put_messages(others)
         lines = [f"{result.entry.label}: {result.line}" for result in results]
         put_text("\n".join([*lines, count(results)]) + "\n")
-        put_others(others)
     return max(result.status for result in results)
 
 
@@ -72,11 +74,11 @@ def reasons(options):
     if is_one(options, results):
         put_one(results[0], judgements(results[0], options.short))
         return results[0].status
+    put_messages(others)
     for result in results:
         lines = [f"{result.entry.label}: {result.line}", *judgements(result, options.short)]
         put_text("\n".join(lines) + "\n\n")
     put_text(f"{count(results)}\n")
-    put_others(others)
     return max(result.status for result in results)
 
 
@@ -91,8 +93,8 @@ def put_one(result, lines):
     put_text("\n".join([result.line, *lines]) + "\n")
 
 
-def put_others(others):
-    for line in others:
+def put_messages(lines):
+    for line in lines:
         print(line, file=sys.stderr)
 
 
@@ -113,7 +115,8 @@ def read_file(name):
     except Stop as stop:
         what = NOT_READ if stop.status == UNUSABLE else WRONG_NOTATION
         entry = Entry(shown(name), Part("", 1, ""), True)
-        return [Result(entry, Mark(what, None), str(stop), status=stop.status, message=str(stop))]
+        words = str(stop).removeprefix(f"{entry.file}: ")
+        return [Result(entry, Mark(what, None), words, status=stop.status, message=str(stop))]
 
 
 def read_entry(entry):
@@ -130,19 +133,19 @@ def with_mark(result, given, explained):
     """The paper with the marking program's mark and the words that fit it. The
     reading here must come to the same mark."""
     if given.word == "passes" and not explained:
-        return result._replace(mark=given, words=why.in_words("passes", None))
+        return result._replace(mark=given, words=in_words("passes", None))
     node = Judge(result.subject).whole()
     if node.mark != given:
-        words = why.in_words(given.word, given.number)
-        print(difference(result.entry, node.mark, given), file=sys.stderr)
-        return result._replace(mark=given, words=words, status=WRONG, node=None)
+        put_messages([difference(result.entry.label, node.mark, given)])
+        return result._replace(mark=given, words=in_words(*given), status=WRONG)
     words = why.Words(result.subject, node)
-    return result._replace(mark=given, words=words.text, rules=words.rules, node=node)
+    return result._replace(mark=given, words=words.text, rules=words.rules,
+                           node=node if explained else None)
 
 
-def difference(entry, here, there):
-    return (f"{entry.label}: THE MARKS DIFFER: {here} by this aid's reading of the rules, {there} "
-            "by the marking program, which is proved. The reasons of this aid are wrong here: "
+def difference(label, here, there):
+    return (f"{label}: THE MARKS DIFFER: {here} by this aid's reading of the rules, {there} by "
+            "the marking program, which is proved. The reasons of this aid are wrong here: "
             "please report this paper.")
 
 
@@ -152,15 +155,22 @@ def judgements(result, short):
         return []
     if short:
         return why.short_lines(result.subject, result.node)
-    return [*tidied(result.subject), *why.lines(result.subject, result.node)]
+    return [*prepared(result.subject, result.node), *why.lines(result.subject, result.node)]
 
 
-def tidied(subject):
-    """What tidying changed."""
-    found = []
-    for which, tree in (("derived", subject.sheet.derived), ("base", subject.sheet.base)):
+def prepared(subject, node):
+    """What comes before the rules: joining, tidying, and the early pass where it
+    might have been."""
+    def text(tree):
+        return subject.text(tree, LONGEST_WHOLE)
+
+    sheet = subject.sheet
+    found = [f"the base's chain joined (L4): {text(sheet.base)}"] if subject.is_joined else []
+    for which, tree in (("derived", sheet.derived), ("base", sheet.base)):
         if tidy(tree) != tree:
-            found.append(f"the {which} tree tidied (D1 to D6): {subject.text(tidy(tree))}")
+            found.append(f"the {which} tree tidied (D1 to D6): {text(tidy(tree))}")
+    if node.derived.maximum == 0 and node.rule != "M1":
+        found.append("no early pass (M1): the base tree may occur, and isn't emptiable")
     return found
 
 

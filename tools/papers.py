@@ -1,10 +1,11 @@
 """The papers of a file: one, or several that are parted by blank lines or by
 lines `paper : NAME`; and the files of a folder."""
 
+import os
 from pathlib import Path
 from typing import NamedTuple
 
-from files import STANDARD, UNUSABLE, Stop, shown, text_of
+from files import STANDARD, shown, text_of
 from statements import NameLine, scanned
 
 SUFFIX = ".paper"
@@ -31,9 +32,8 @@ class Entry(NamedTuple):
 
     @property
     def label(self):
-        if self.part.name:
-            return f"{self.file}, {self.part.name}"
-        return self.file if self.alone else f"{self.file}:{self.part.line}"
+        place = self.file if self.alone else f"{self.file}:{self.part.line}"
+        return f"{place}, {self.part.name}" if self.part.name else place
 
 
 def split(text):
@@ -63,18 +63,26 @@ def files_of(names):
     named. Says also which folders have other files besides papers."""
     files, others = [], []
     for name in names or [STANDARD]:
-        if name == STANDARD or not Path(name).is_dir():
+        if name == STANDARD or not os.path.isdir(name):
             files.append(name)
             continue
-        inside = sorted(file for file in Path(name).iterdir() if file.is_file())
-        papers = [str(file) for file in inside if file.suffix == SUFFIX]
-        if not papers:
-            raise Stop(UNUSABLE, f"{name}: no file *{SUFFIX} in this folder")
-        if len(papers) < len(inside):
-            others.append(f"{name}: {len(inside) - len(papers)} other files are left alone, "
+        inside = inside_of(name)
+        papers = [file for file in inside if file.suffix.lower() == SUFFIX]
+        # A folder without papers stands for one that can't be read.
+        files += map(str, papers or [Path(name) / f"*{SUFFIX}"])
+        left = len(inside) - len(papers)
+        if left:
+            others.append(f"{name}: {left} other{'s' * (left > 1)} left alone, "
                           f"only *{SUFFIX} are read")
-        files += papers
     return files, others
+
+
+def inside_of(name):
+    """What is in a folder, by name."""
+    try:
+        return sorted(Path(name).iterdir())
+    except OSError:
+        return []
 
 
 def entries_of(name):

@@ -6,6 +6,8 @@ from pathlib import Path
 from typing import NamedTuple
 
 ROOT = Path(__file__).resolve().parent.parent
+# The programs' place in a packed folder; the repository has none.
+PACKED = ROOT / "bin"
 
 
 class NoAnswer(Exception):
@@ -22,21 +24,24 @@ class Program(NamedTuple):
     answer: str
 
     def path(self):
-        """Where the variable says; or beside the tools, as in a folder that
+        """Where the variable says; or beside the tools, in a folder that
         `tools/pack` made; or where `rt check` puts it."""
         named = os.environ.get(self.variable)
-        packed = ROOT / "bin" / self.name
-        built = ROOT / "target" / "bin" / self.name
-        return Path(named) if named else packed if packed.is_file() else built
+        return Path(named) if named else PACKED / self.name if PACKED.is_dir() else self.built
+
+    @property
+    def built(self):
+        """Where `rt check` puts it."""
+        return ROOT / "target" / "bin" / self.name
 
     def run(self, data, *words):
         """What it does with the data; raises NoAnswer where it can't be run."""
         path = self.path()
         if not path.is_file():
-            raise NoAnswer(
-                f"{self.called} {path} is missing: run `rt check {self.name}` in the repository's "
-                f"root, or set {self.variable} to the program's path"
-            )
+            cure = ("this folder is not whole, pack it anew" if PACKED.is_dir() else
+                    f"run `rt check {self.name}` in the repository's root")
+            raise NoAnswer(f"{self.called} {path} is missing: {cure}, or set {self.variable} to "
+                           "the program's path")
         try:
             return subprocess.run([str(path.resolve()), *words], input=data, check=False,
                                   stdout=subprocess.PIPE, stderr=subprocess.PIPE)

@@ -17,10 +17,10 @@ class Judge:
 
     def __init__(self, subject):
         self.subject = subject
-        self.text = subject.text
         # The particles seen, each under its fields, so that equal ones are one
         # object; and what was found of one, and of two.
         self.particles = {}
+        self.texts = {}
         self.empty = {}
         self.known = {}
 
@@ -53,6 +53,11 @@ class Judge:
     def alone_in(self, kind, pair, item):
         """A group of this kind and pair that holds the item alone."""
         return self.particle(Tree(kind, 0, *pair, [item]))
+
+    def text(self, tree):
+        if id(tree) not in self.texts:
+            self.texts[id(tree)] = self.subject.text(tree)
+        return self.texts[id(tree)]
 
     def emptiable(self, tree):
         if id(tree) not in self.empty:
@@ -151,8 +156,10 @@ def element_group(judge, derived, base):
     if second.node.mark == PASSES:
         return Outcome(PASSES, "", steps, 1)
     if OPEN not in (first.node.mark, second.node.mark):
+        steps.append(Step(None, after="two failures give the first's reason (M7)"))
         return Outcome(first.node.mark, "", steps, 0)
-    return Outcome(OPEN, "", steps, 0 if first.node.mark == OPEN else 1)
+    steps.append(Step(None, after="neither reading passes, and one is undecided (M7)"))
+    return Outcome(OPEN, "", steps, 0 if first.node.mark == OPEN else 1, "M7")
 
 
 def second_reading(judge, derived, base):
@@ -170,7 +177,7 @@ def group_element(judge, derived, base):
     alone = judge.alone_in(derived.kind, (1, 1), base)
     wrapped = f"the base's {judge.text(base)} in a {KIND_WORDS[derived.kind]} of its own"
     below = judge.restrict(derived, alone)
-    return Outcome(below.mark, "", [Step(below, wrapped, wrapped=wrapped)], 0)
+    return Outcome(below.mark, "", [Step(below, wrapped, wrapped=wrapped)], 0, "M8")
 
 
 def group_wildcard(judge, derived, base):
@@ -192,7 +199,9 @@ def sequence_choice(judge, derived, base):
     maximum = None if derived.maximum is None else derived.maximum * count
     within = range_outcome(116, derived.minimum * count, maximum, base)
     if within.mark != PASSES:
-        return within
+        stays = maximum is None and count == 0
+        note = "; unbounded stays unbounded even for 0 items" if stays else ""
+        return within._replace(detail=f"{within.detail}{note}")
     return walks.each_member(
         (walks.among_alternatives(judge, item, base) for item in derived.items), count)
 

@@ -7,7 +7,7 @@ lists everything that could have stood there."""
 import re
 
 from faults import PaperError, Token
-from hints import hint_at
+from hints import END, hint_at
 
 # A word (a letter with its number, or a keyword), a number, a sign; any other
 # character is a token by itself, which nothing expects.
@@ -95,7 +95,7 @@ class Scanner:
 
     def expect_end(self):
         if self.token.text:
-            self.fail("the end of the line")
+            self.fail(END)
 
     def number(self, most):
         """A number from 0 to ``most``."""

@@ -14,7 +14,7 @@ from typing import List, NamedTuple, Optional, Union
 from faults import Token
 from hints import A_LEAF
 from notation import leaf_kind
-from scanner import Scanner, as_number
+from scanner import CLOSING, COMMENT, OPENING, Scanner, as_number
 from sheet import MOST_NAME, OK, PROCESS_CONTENTS, SET_REASONS, UNDECIDED, is_verdict
 
 VERDICT_WORDS = {"ok": OK, "undecided": UNDECIDED}
@@ -64,10 +64,11 @@ Statement = Union[LeafList, NameNumber, ProcessContents, Verdicts]
 def scanned(lines):
     """The statements and the lines that name a paper. A statement is a line, and
     those after it while it is open or they go on with it."""
-    found = []
+    found, before = [], ""
     for number, line in enumerate(lines, 1):
-        last = found[-1] if found else None
-        if isinstance(last, Scanner) and (last.is_open or last.goes_on_in(line)):
+        last, before, above = found[-1] if found else None, line, before
+        if isinstance(last, Scanner) and (
+                last.goes_on_in(line) or (last.is_open and not begins_paper(line, above))):
             last.go_on(line, number)
             continue
         name = NAME_LINE.match(line)
@@ -75,6 +76,20 @@ def scanned(lines):
         if name or not statement.is_blank:
             found.append(statement)
     return found
+
+
+def begins_paper(line, above):
+    """Whether a line begins a paper even where a bracket before it is open, so
+    that one that was forgotten does not take the papers after it along: it names
+    one, or stands after a blank line and has a | in no bracket of its own."""
+    if NAME_LINE.match(line):
+        return True
+    opened = 0
+    for sign in line.split(COMMENT, 1)[0]:
+        opened += (sign == OPENING) - (sign == CLOSING)
+        if opened < 0 or (sign == "|" and opened == 0):
+            return sign == "|" and not above.strip() and ":" not in line
+    return False
 
 
 def read_statement(scanner) -> Statement:

@@ -52,7 +52,10 @@ IN_TREES = [
     # A tree goes on in the next line while a bracket is open, after | or + and
     # before | or +.
     ("S[a,\n  b c] | a", 2, 5, "'(', ']' or ','", "'c'"),
-    ("S[a # b]\n\n,c | a", 3, 4, "'(', ']' or ','", "'|'"),
+    ("S[a # b]\n,c | a", 2, 4, "'(', ']' or ','", "'|'"),
+    # What begins a paper ends what is open before it.
+    ("S[a # b]\n\nc | a", 1, 4, "'(', ']' or ','", END),
+    ("S[a,b\npaper : Bo\nc | a", 1, 6, "'(', ']' or ','", END),
     ("S[a\n# b]\n\n", 1, 4, "'(', ']' or ','", END),
     ("S[a] | S[a,\nb\na | b : ok", 3, 1, "'(', ']' or ','", "'a'"),
     ("S[a\n]\n a | a", 2, 2, "'|'", END),
@@ -116,10 +119,27 @@ HINTED = [
     ("a | b\nS[a] | S[b]", "parted by a blank line"),
     ("a | b\na | b : ok\nS[a,b] | b", "'paper : NAME'"),
     ("S[a,b]", "take one alone"),
+    ("a", "take one alone"),
     ("a | b\na | b ok :", None),
+    ("a | b\na | b ok", "after ':'"),
+    ("a | b ok", "after ':'"),
+    ("a | b : ok\na | b", "before all else"),
+    ("a : name 1\na | b", "before all else"),
+    ("Paper : Bo\na | b", "'paper : NAME'"),
+    ("S[A,B] | a", "small letters"),
+    ("S[a,B] | a", "small letters"),
+    ("a | S[a,Äpfel]", "from a to z"),
+    ("s[a,b] | a", "capital letters"),
+    ("S[a;b] | a", "commas part items"),
+    ("S[a*,b] | a", "a(1,*)"),
+    ("a | b?", "a(0,1)"),
+    ("a(0,unbounded) | a", "a(1,*)"),
+    ("a(2) | a", "a(2,2)"),
     ("S[a b] | a", None),
     ("S[a] | 5", None),
-    ("a | b\nS[a]", None),
+    ("a | b\nS[a]", "parted by a blank line"),
+    ("a | a | a", None),
+    ("a | b\na : fast", None),
 ]
 
 
@@ -193,7 +213,7 @@ class Reports(unittest.TestCase):
 
     def test_long_line_is_cut(self):
         report = self.report(f"S[{'a,' * 100}X{',a' * 100}] | a").split("\n")
-        self.assertEqual(len(report), 3)
+        self.assertEqual(len(report), 4)
         self.assertTrue(report[1].startswith("  ...") and report[1].endswith("..."))
         self.assertLess(len(report[1]), 90)
         self.assertEqual(report[1][report[2].index("^")], "X")

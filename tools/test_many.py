@@ -3,6 +3,7 @@ closing count, and comma-separated values."""
 
 import csv
 import io
+import os
 import subprocess
 import sys
 import time
@@ -37,6 +38,14 @@ PARTED = [
     ("a | b\n\npaper : Bo\n\nleaves : a\nc | d", [("", 1, "a | b"), ("Bo", 3, "leaves : a\nc | d")]),
     ("a | S[b,\n\nc]\n\nc\n  | d", [("", 1, "a | S[b,\n\nc]"), ("", 5, "c\n  | d")]),
     ("a | b\nc | d\n\ne | f", [("", 1, "a | b\nc | d"), ("", 4, "e | f")]),
+    # A forgotten bracket, or a sign at the end, does not take the next papers along.
+    ("paper : Anna\nS[a,b | S[a,b]\n\npaper : Bo\nS[a] | S[a]", [
+        ("Anna", 1, "S[a,b | S[a,b]"), ("Bo", 4, "S[a] | S[a]")]),
+    ("S[a,b\n\nS[a] | S[a]\n\nc |\n\nd | e", [
+        ("", 1, "S[a,b"), ("", 3, "S[a] | S[a]"), ("", 5, "c |"), ("", 7, "d | e")]),
+    ("S[a,\n\nS[b,c]] | S[a,\n\n  b]\n\nc | d", [
+        ("", 1, "S[a,\n\nS[b,c]] | S[a,\n\n  b]"), ("", 7, "c | d")]),
+    ("a\n\n| S[b]\n\nc | d", [("", 1, "a\n\n| S[b]"), ("", 5, "c | d")]),
     ("", [("", 1, "")]),
     ("# nothing\n\n", [("", 1, "# nothing")]),
 ]
@@ -50,8 +59,7 @@ class Parting(unittest.TestCase):
                 self.assertEqual([(part.name, part.line) for part in found],
                                  [part[:2] for part in expected])
                 for part, (_, _, trees) in zip(found, expected):
-                    said = part.text.strip()
-                    self.assertTrue(said.endswith(trees) or trees in said, part)
+                    self.assertIn(trees, part.text)
 
     def test_lines_keep_their_numbers(self):
         text = "a | b\n\n# c\nc | d\nd : name 1\n\n\ne | f\n"
@@ -114,8 +122,8 @@ class Marking(Command):
         (self.folder / "notes.txt").write_text("no paper")
         (self.folder / "more").mkdir()
         anna, bo = self.folder / "anna.paper", self.folder / "bo.paper"
-        said = f"{anna}:1: {PASSES}\n{anna}, x: {PASSES}\n{bo}: {FAILS}\n3 papers: 2 pass, 1 fails\n"
-        self.check(run("mark", self.folder), 0, said.encode(), "1 other files are left alone")
+        said = f"{anna}:1: {PASSES}\n{anna}:3, x: {PASSES}\n{bo}: {FAILS}\n3 papers: 2 pass, 1 fails\n"
+        self.check(run("mark", self.folder), 0, said.encode(), "2 others left alone")
 
     def test_a_folder_of_one(self):
         self.put(anna="a | a")
@@ -123,7 +131,33 @@ class Marking(Command):
         self.check(run("mark", self.folder), 0, said.encode(), "")
 
     def test_a_folder_of_none(self):
-        self.check(run("mark", self.folder), 2, b"", "no file *.paper in this folder")
+        none = self.folder / "*.paper"
+        self.check(run("mark", self.folder), 2, f"{none}: not read: No such file or directory\n"
+                   "1 paper: 1 not read\n".encode(), "")
+        done = run("mark", self.folder, SAMPLES / "entry.paper")
+        self.assertEqual((done.returncode, done.stdout.decode().splitlines()), (2, [
+            f"{none}: not read: No such file or directory",
+            f"{SAMPLES / 'entry.paper'}: {PASSES}", "2 papers: 1 passes, 1 not read"]))
+
+    def test_names_and_places_that_cannot_be_read(self):
+        """Each has its line, and the others are marked."""
+        (self.folder / "anna.paper").symlink_to(self.folder / "nowhere")
+        (self.folder / "bo.paper").mkdir()
+        (Path(os.fsdecode(bytes(self.folder) + b"/J\xfcrgen.PAPER"))).write_text("a | a")
+        done = run("mark", self.folder, "x" * 300, self.folder / "bo.paper" / "y" / "z.paper")
+        self.assertEqual(done.returncode, 2)
+        found = done.stdout.decode("latin-1").splitlines()
+        self.assertEqual([line.split(": ", 1)[1] for line in found], [
+            PASSES, "not read: No such file or directory", "not read: Is a directory",
+            "not read: File name too long", "not read: No such file or directory",
+            "1 passes, 4 not read"])
+        self.assertIn("J\xfcrgen.PAPER", found[0])
+
+    def test_texts_of_other_editors(self):
+        for data, status in ((b"\xef\xbb\xbfa | a\r\n", 0), (b"# x\ra | a\r", 0),
+                             ("a | a".encode("utf-16"), 1)):
+            self.assertEqual(run("mark", data=data).returncode, status)
+        self.check(run("mark", data="a | a".encode("utf-16")), 1, b"", "save it as UTF-8")
 
     def test_wrong_ones_do_not_stop_the_others(self):
         self.put(anna="a b", bo="a | a")
@@ -132,7 +166,7 @@ class Marking(Command):
         said = f"{anna}: {WRONG}\n{bo}: {PASSES}\n"
         self.check(run("mark", anna, bo), 1,
                    f"{said}2 papers: 1 passes, 1 in wrong notation\n".encode(), "")
-        said += f"{missing}: not read: {missing}: No such file or directory\n"
+        said += f"{missing}: not read: No such file or directory\n"
         count = "3 papers: 1 passes, 1 in wrong notation, 1 not read\n"
         self.check(run("mark", anna, bo, missing), 2, (said + count).encode(), "")
 
@@ -140,7 +174,7 @@ class Marking(Command):
         done = run("mark", data=b"a | a\n\na(0,1) | a\n\na b\n\npaper : Anna\na | A[a]\n")
         wrong = WRONG.replace("1:3", "5:3")
         said = (f"<stdin>:1: {PASSES}\n<stdin>:3: {FAILS}\n<stdin>:5: {wrong}\n"
-                f"<stdin>, Anna: {OPEN}\n"
+                f"<stdin>:7, Anna: {OPEN}\n"
                 "4 papers: 1 passes, 1 fails, 1 undecided, 1 in wrong notation\n")
         self.check(done, 1, said.encode(), "")
 
@@ -217,6 +251,7 @@ class Packing(Command):
         self.assertEqual(list(folder.glob("tools/test*")), [])
 
     def test_bad_usage(self):
+        (self.folder / "file").write_text("")
         for words in ((), ("a", "b"), ("--help",), (self.folder,)):
             done = self.pack(*words)
             self.assertEqual((done.returncode, done.stdout), (2, b""))

@@ -207,9 +207,8 @@ class OtherVerbs(Command):
 
     def test_a_paper_is_no_sheet(self):
         paper = SAMPLES / "never.paper"
-        done = run("read", paper, program=self.program("refused 1\\n"))
-        self.check(done, 1, done.stdout, f"use `tools/paper mark {paper}`")
-        self.assertTrue(done.stdout.startswith(b"# refused 1: "))
+        missing = self.folder / "missing"
+        self.check(run("read", paper, program=missing), 1, b"", f"use `tools/paper mark {paper}`")
 
 
 class Words(unittest.TestCase):

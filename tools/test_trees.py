@@ -123,6 +123,10 @@ class Uses(Command):
         self.check(run("tidy", data=b"S[a,b]", tidier=other), 1, b"",
                    "the tidied tree is S[a,b] by this aid, a by the tidying program")
         self.check(run("item", 1, data=b"S[a,b]", items=other), 1, b"", "the item is b by this aid")
+        none = self.program("", message="no item\\n")
+        self.check(run("item", 1, data=b"S[a,b]", items=none), 1, b"",
+                   "the item is b by this aid, none by the program for items")
+        self.check(run("join", data=b"a + b", joiner=none), 2, b"", "no joined tree")
 
     def test_no_answer(self):
         missing = self.folder / "missing"

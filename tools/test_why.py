@@ -33,7 +33,8 @@ a | S(0,0)[a]: fails 105 (M7)
   first reading, a in a sequence of its own: S[a] | S(0,0)[a]: fails 105 (M5): sequence, \
 sequence: the range isn't within the base's: (1,1) isn't within (0,0)
   second reading: a | S(0,0)[a]: fails 125 (M7): element, sequence or choice: the base maximum \
-is 0"""),
+is 0
+  two failures give the first's reason (M7)"""),
     ("C[b] | C[a,b,c]", """\
 b | C[a,b,c]: passes (M7)
   first reading, b in a choice of its own: C[b] | C[a,b,c]: passes (M5)
@@ -59,9 +60,24 @@ none of the alternatives: b
     b | a: fails 140 (M2): b against a in the first table is 140, by default
     b | c: fails 152 (M2): b against c in the second table is 152"""),
     ("S[a,b] | S[e,c]\na | e : undecided", """\
-S[a,b] | S[e,c]: undecided (M5)
+S[a,b] | S[e,c]: undecided (M5, M14)
   a | e: undecided (M2): a against e in the first table is undecided
-    nothing after it makes the mark definite (M14)"""),
+  b | c: fails 140 (M2): b against c in the first table is 140, by default
+    c isn't emptiable (E1): the walk ends (M13)
+  a failure after an undecided item is undecided (M14)"""),
+    ("a(0,1) | C[b,c]\na | b : undecided", """\
+a(0,1) | C[b,c]: undecided (M7)
+  first reading, a(0,1) in a choice of its own: C(0,1)[a] | C[b,c]: fails 106 (M5): choice, \
+choice: the range isn't within the base's: (0,1) isn't within (1,1)
+  second reading: a(0,1) | C[b,c]: undecided (M7, M15)
+    a(0,1) | b: undecided (M2): a against b in the first table is undecided
+    a(0,1) | c: fails 140 (M2): a against c in the first table is 140, by default
+  neither reading passes, and one is undecided (M7)"""),
+    ("S[a,b] | S[e]\na | e : undecided", """\
+S[a,b] | e: undecided (M8)
+  the base's e in a sequence of its own: S[a,b] | S[e]: undecided (M5, M14)
+    a | e: undecided (M2): a against e in the first table is undecided
+    fails 120: b is left; a failure after an undecided item is undecided (M14)"""),
     ("S(2,2)[C[a,a]] | C(2,2)[a,a,b]", """\
 C(2,2)[a,a] | C(2,2)[a,a,b]: passes (M5)
   a | a: passes (M2): ok in both tables
@@ -99,6 +115,13 @@ FITTED = [
     ("S[a,x] | S[a,b(0,1),c(0,1),d(0,1),e(0,1),f]", "x against f in the first table is 140, by "
      "default, at x | f, after skipping c(0,1) (140), d(0,1) (140), e(0,1) (140) and 1 more "
      "(docs/KEY.md, M2, M13)"),
+    ("C[a,b] | C[b,a]", "ordered walk: a derived item is left and the base items are used up: b is "
+     "left, at C[a,b] | C[b,a], after skipping b (140) (docs/KEY.md, M5, M13)"),
+    ("a(0,1) | S(1,2)[b]\na | b : undecided", "a against b in the first table is undecided, at "
+     "a(0,1) | b (docs/KEY.md, M2, M14, M7)"),
+    ("S(0,*)[] | C(0,3)[a,b]", "sequence, choice: the pair times the item count isn't within the "
+     "base pair: (0,*) isn't within (0,3); unbounded stays unbounded even for 0 items, at "
+     "S(0,*)[] | C(0,3)[a,b] (docs/KEY.md, M10)"),
     ("a | C[b,c]", "ordered walk: a derived item is left and the base items are used up: a is "
      "left, at C[a] | C[b,c], with a in a choice of its own, after skipping b (140), c (140) "
      "(docs/KEY.md, M5, M13, M7)"),
@@ -256,6 +279,18 @@ class Uses(Command):
     def test_tidied_trees_are_shown(self):
         done = run("why", data=b"S[S[a],b(0,0)] | a")
         self.assertIn(b"\nthe derived tree tidied (D1 to D6): a\na | a: passes", done.stdout)
+
+    def test_no_early_pass(self):
+        done = run("why", data=b"a(0,0) | a")
+        self.assertIn(b"\nno early pass (M1): the base tree may occur, and isn't emptiable\n",
+                      done.stdout)
+
+    @needs_joiner
+    def test_a_chain(self):
+        done = run("why", data=b"S[a,b] | S[a] + - + b")
+        self.assertIn(b"\nthe base's chain joined (L4): S[S[a],b]\n"
+                      b"the base tree tidied (D1 to D6): S[a,b]\nS[a,b] | S[a,b]: passes (M5)\n",
+                      done.stdout)
 
     def test_short(self):
         done = run("why", "--short", SAMPLES / "rounds.paper")

@@ -7,12 +7,12 @@ import layout
 from proved import ITEM, JOIN, TIDY
 from refusals import Refused, read_tree
 
-WITHOUT_TREE = re.compile(rb"no content\n|no item\n|refused ([0-9]{1,3})\n")
+REFUSED = re.compile(rb"refused ([0-9]{1,3})\n")
 
 
 def join(levels, leaves):
     """The joined tree, None for no content."""
-    return tree_from(JOIN, layout.encode_chain(levels), leaves)
+    return tree_from(JOIN, layout.encode_chain(levels), leaves, b"no content\n")
 
 
 def tidy(tree, leaves):
@@ -22,15 +22,14 @@ def tidy(tree, leaves):
 
 def item(tree, k, leaves):
     """The root's k-th item, from 0, None where there is none."""
-    return tree_from(ITEM, layout.encode_item(k, tree), leaves)
+    return tree_from(ITEM, layout.encode_item(k, tree), leaves, b"no item\n")
 
 
-def tree_from(program, data, leaves):
-    """The tree that a program writes, None where it says that there is none;
-    raises Refused where it refuses the data, NoAnswer where it does none of the
-    three."""
+def tree_from(program, data, leaves, without=None):
+    """The tree that a program writes, None where it says in these words that there
+    is none; raises Refused where it refuses the data, NoAnswer where it does none
+    of the three."""
     run = program.run(data)
-    without = WITHOUT_TREE.fullmatch(run.stderr)
     if run.returncode != 0 or bool(run.stdout) == bool(run.stderr):
         raise program.no_answer(run)
     if run.stdout:
@@ -38,8 +37,9 @@ def tree_from(program, data, leaves):
             return read_tree(run.stdout, leaves)
         except Refused as refused:
             raise program.no_answer(run) from refused
-    if not without:
+    refused = REFUSED.fullmatch(run.stderr)
+    if refused:
+        raise Refused(int(refused.group(1)), f"{program.called} refuses it")
+    if run.stderr != without:
         raise program.no_answer(run)
-    if without.group(1):
-        raise Refused(int(without.group(1)), f"{program.called} refuses it")
     return None

@@ -20,7 +20,7 @@ USES = {
 
 # tools/README.md has these lines too; a test compares them.
 GRAMMAR = """\
-paper : NAME                 the paper's name, any text, where it has one
+paper : NAME                 the paper's name, any text without #, if it has one
 DERIVED | BASE               the two trees, before all else
 leaves : LEAVES              every leaf, in the order of the leaf numbers
 LEAVES : name NUMBER         elements: the local name number, up to 65535

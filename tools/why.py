@@ -3,7 +3,7 @@ and the words for the judgement that decides."""
 
 from itertools import takewhile
 
-from judgement import PASSES, path
+from judgement import OPEN, PASSES, path
 from sheet import SET_REASONS
 from words import KEY, NEVER_SHOWN, REASONS, in_words
 
@@ -11,9 +11,6 @@ INDENT = "  "
 AS_ABOVE = "as above"
 # So many skipped items are named.
 MOST_SKIPPED = 3
-# Which rule lets a judgement that is undecided make the whole so, by the rule of
-# the judgement that holds it; M7 and M8 do it themselves.
-CARRIED_BY = {"M5": "M14", "M6": "M14", "M9": "M14", "M10": "M14"}
 
 
 def lines(subject, node):
@@ -57,10 +54,14 @@ def particles(subject, node):
 
 
 def rules(node):
-    """The rule of the two kinds and, where it is another, that of the reason."""
-    if node.decisive or node.mark.number not in REASONS:
-        return [node.rule]
-    return list(dict.fromkeys([node.rule, REASONS[node.mark.number][1]]))
+    """The rule of the two kinds and, where they are others, that of the reason and
+    that by which an item makes it undecided."""
+    found = [node.rule]
+    if node.mark == OPEN and node.decisive:
+        found.append(node.outcome.carried)
+    elif not node.decisive and node.mark.number in REASONS:
+        found.append(REASONS[node.mark.number][1])
+    return list(dict.fromkeys(found))
 
 
 def reason(node):
@@ -86,8 +87,8 @@ class Words:
         if last.wrapped:
             self.text += f", with {last.wrapped}"
             self.rules.append(above[-1].node.rule)
-        elif node.mark.word == "undecided":
-            self.rules += [carrying(step.node) for step in reversed(above)]
+        if node.mark == OPEN:
+            self.rules += [step.node.outcome.carried for step in reversed(above)]
         tried = skipped([step.node for step in (*above, last)])
         if tried:
             self.text += f", after skipping {named(subject, tried)}"
@@ -95,16 +96,23 @@ class Words:
         self.rules = list(dict.fromkeys(self.rules))
 
     def __str__(self):
-        return f"{self.text} ({KEY}, {', '.join(self.rules)})" if self.rules else self.text
+        return with_rules(self.text, self.rules)
+
+
+def with_rules(text, cited):
+    return f"{text} ({KEY}, {', '.join(cited)})" if cited else text
 
 
 def skipped(nodes):
-    """The judgements on base items that were skipped for the derived item at
-    which a walk ends: it may have been meant for one of these."""
-    walk = nodes[-1] if nodes[-1].mark.number == 120 else nodes[-2] if len(nodes) > 1 else None
-    if walk is None:
+    """The judgements on base items that the walk which ends skipped: for the item
+    that ends it, which may have been meant for one of these; or, where an item is
+    left, all of them."""
+    if nodes[-1].mark.number == 120:
+        return [step.node for step in nodes[-1].outcome.steps if step.skips]
+    if len(nodes) == 1:
         return []
-    before = reversed(walk.outcome.steps[:walk.outcome.decides])
+    walk = nodes[-2].outcome
+    before = reversed(walk.steps[:walk.decides])
     return [step.node for step in takewhile(lambda step: step.skips, before)][::-1]
 
 
@@ -112,8 +120,3 @@ def named(subject, tried):
     said = [f"{subject.text(node.base)} ({node.mark.number})" for node in tried]
     more = f" and {len(said) - MOST_SKIPPED} more" if len(said) > MOST_SKIPPED else ""
     return f"{', '.join(said[-MOST_SKIPPED:])}{more}"
-
-
-def carrying(node):
-    """The rule by which what is below makes this judgement undecided."""
-    return "M15" if node.between != " | " else CARRIED_BY.get(node.rule, node.rule)
