@@ -24,8 +24,9 @@ CAPITAL_GROUPS = "groups are capital letters: S (sequence), C (choice), A (all)"
 HOW_OFTEN = "how often is said by a pair of minimum and maximum, as in a(0,1), a(1,*) or a(2,2)"
 GROUP_WORDS = {"sequence": "S", "seq": "S", "choice": "C", "all": "A"}
 VERDICT_WORDS = ("ok", "undecided", "first", "second")
+COMMAS = "commas part items, as in S[a,b]"
 # What a sign in place of another stands for, most likely.
-INSTEAD = {";": "commas part items, as in S[a,b]", "*": HOW_OFTEN, "?": HOW_OFTEN}
+INSTEAD = {";": COMMAS, "*": HOW_OFTEN, "?": HOW_OFTEN}
 
 
 def hint_at(token, before, wanted):
@@ -40,6 +41,8 @@ def hint_at(token, before, wanted):
         return SMALL_LEAVES
     if wanted == ["'*'", "a number"] or (wanted == ["','"] and token.text == ")"):
         return HOW_OFTEN
+    if "']'" in wanted and "','" in wanted and token.text.isalnum():
+        return COMMAS
     if wanted[-1] in ("'|'", END):
         return hint_after_trees(token, wanted)
     return hint_for_leaf(token) if A_LEAF in wanted else INSTEAD.get(token.text)

@@ -135,7 +135,9 @@ HINTED = [
     ("a | b?", "a(0,1)"),
     ("a(0,unbounded) | a", "a(1,*)"),
     ("a(2) | a", "a(2,2)"),
-    ("S[a b] | a", None),
+    ("S[a b] | a", "commas part items"),
+    ("S[a S[b]] | a", "commas part items"),
+    ("S[a,b | a", None),
     ("S[a] | 5", None),
     ("a | b\nS[a]", "parted by a blank line"),
     ("a | a | a", None),
@@ -201,7 +203,8 @@ class Reports(unittest.TestCase):
             self.report("# entry\nS[a b] | S[a]\r\n"),
             "club.paper:2:5: expected '(', ']' or ',', found 'b'\n"
             "  S[a b] | S[a]\n"
-            "      ^",
+            "      ^\n"
+            "hint: commas part items, as in S[a,b]",
         )
 
     def test_hint_below_the_caret(self):
@@ -209,7 +212,7 @@ class Reports(unittest.TestCase):
             "\n      ^\nhint: a group's pair stands before its items, as in S(0,1)[a,b]"))
 
     def test_tabs_keep_the_caret_in_place(self):
-        self.assertTrue(self.report("\tS[a\tb] | a").endswith("  \tS[a\tb] | a\n  \t   \t^"))
+        self.assertIn("\n  \tS[a\tb] | a\n  \t   \t^\n", self.report("\tS[a\tb] | a"))
 
     def test_long_line_is_cut(self):
         report = self.report(f"S[{'a,' * 100}X{',a' * 100}] | a").split("\n")
