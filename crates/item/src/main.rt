@@ -1,7 +1,5 @@
 // Prints one item of a tree's root. Standard input is the item's number, from 0, in two bytes, low byte first, and then the tree; standard
 // output is the item's bytes. Where there is none, a line on standard error says why: `no item` or `refused N`.
-ghost use mathlib.Core.Path.{_≡_};
-ghost use Rattle.particle.specs.Record.{half};
 use entries::EmptiableAnswer;
 use libc::STDERR_FILENO;
 use libc::STDIN_FILENO;
@@ -9,13 +7,6 @@ use libc::STDOUT_FILENO;
 
 // The bytes of the item's number.
 const NUMBER: usize = 2;
-
-// The number that the two bytes give.
-fn item_number(head: &[u8; NUMBER]) -> usize
-    ensures { λ r. ⌜ r ≡ half (now (head .entry)) 0 ⌝ }
-{
-    particle::read_u16(head, 0) as usize
-}
 
 // Why t has no such item. The entries for one tree refuse alike, so another one tells the refusal.
 fn print_why(t: &[u8]) {
@@ -44,5 +35,5 @@ fn main() {
     io::read_full(STDIN_FILENO, &mut head);
     let mut buf = io::large_buffer();
     let n = io::read_full(STDIN_FILENO, &mut buf);
-    print_item(&buf[..n], item_number(&head));
+    print_item(&buf[..n], streams::number_at(&head, 0));
 }

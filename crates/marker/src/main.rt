@@ -3,10 +3,8 @@
 // line for each, in order. With any other arguments it marks nothing, and says on standard error how it is used.
 ghost use mathlib.Core.Path.{_≡_};
 ghost use mathlib.Core.Bool.{true};
-ghost use Prim.Native.Nat.{_<_};
 ghost use lib.ListN.{take};
 ghost use Rattle.io.specs.Counts.{Counts};
-ghost use Rattle.particle.specs.Record.{half};
 ghost use Rattle.marking.specs.Answer.{markMeaning, markSheet};
 ghost use Rattle.marker.specs.Many.{many};
 use libc::STDERR_FILENO;
@@ -63,14 +61,6 @@ fn mark_one() {
     print_mark(marking::mark(&buf[..n]));
 }
 
-// The length that the two bytes give.
-fn sheet_length(head: &[u8; LENGTH]) -> usize
-    ensures { λ r. ⌜ r ≡ half (now (head .entry)) 0 ⌝ }
-    ensures { λ r. ⌜ r < 65536 ⌝ }
-{
-    particle::read_u16(head, 0) as usize
-}
-
 // The mark of the first n bytes of buf, whatever an earlier sheet left after them.
 fn mark_first(buf: &[u8], n: usize) -> MarkAnswer
     requires { ⌜ Counts n (now buf) ⌝ }
@@ -89,7 +79,7 @@ fn mark_next(buf: &mut [u8; ROOM]) -> Outcome {
     if got < LENGTH {
         return Outcome::CutOff;
     }
-    let n = sheet_length(&head);
+    let n = streams::number_at(&head, 0);
     if !streams::filled(buf, n) {
         return Outcome::CutOff;
     }

@@ -13,7 +13,6 @@
 //   6  marker_item, over entries::item: the k-th item
 //   7  marker_effective_particle, over chain::effective_particle
 ghost use mathlib.Core.Path.{_≡_};
-ghost use Prim.Native.Nat.{_+_, _≤_, _<_};
 ghost use lib.ListN.{length};
 ghost use Rattle.replay.specs.Expected.{numberOf, bufferOf, Agrees};
 use libc::STDIN_FILENO;
@@ -52,20 +51,6 @@ enum Outcome {
     Unknown,
     CutOff,
     Ended,
-}
-
-fn wide(x: u8) -> usize
-    ensures { λ r. ⌜ r < 256 ⌝ }
-{
-    x as usize
-}
-
-// The two bytes at `at`, the lower first.
-fn read_u16(s: &[u8; HEAD], at: usize) -> usize
-    requires { ⌜ at + 2 ≤ 15 ⌝ }
-    ensures { λ r. ⌜ r < 65536 ⌝ }
-{
-    wide(s[at]) + wide(s[at + 1]) * 256
 }
 
 // The answer that a head has.
@@ -131,8 +116,8 @@ fn replay_body(
     requires { ⌜ 65536 ≡ length (now lent) ⌝ }
     requires { ⌜ 65536 ≡ length (now after) ⌝ }
 {
-    let n = read_u16(head, 3);
-    let room = read_u16(head, 5);
+    let n = streams::number_at(head, 3);
+    let room = streams::number_at(head, 5);
     if !streams::filled(input, n) {
         return Outcome::CutOff;
     }
@@ -161,7 +146,7 @@ fn replay_next(input: &mut [u8; ROOM], lent: &mut [u8; ROOM], after: &mut [u8; R
     if got < HEAD {
         return Outcome::CutOff;
     }
-    match asked_for(head[0], read_u16(&head, 1)) {
+    match asked_for(head[0], streams::number_at(&head, 1)) {
         Asked::Nothing => Outcome::Unknown,
         Asked::For(op) => replay_body(op, &head, input, lent, after),
     }

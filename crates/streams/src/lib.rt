@@ -1,12 +1,23 @@
-// What the programs do alike with what they read and print: a number of bytes, a refusal's line, a tree.
-ghost use Prim.Native.Nat.{_≤_};
+// What the programs do alike with what they read and print: a number of two bytes, so many bytes, a refusal's line, a tree.
+ghost use mathlib.Core.Path.{_≡_};
+ghost use Prim.Native.Nat.{_+_, _≤_, _<_};
 ghost use lib.ListN.{length};
 ghost use Rattle.io.specs.Counts.{Counts};
+ghost use Rattle.particle.specs.Record.{half};
 use intake::Refusal;
 use libc::STDIN_FILENO;
 use libc::STDOUT_FILENO;
 use particle::MAX_RECORDS;
 use particle::RECORD_SIZE;
+
+// The number that the two bytes at `at` give, the lower first: a length before a sheet, an item's number, the lengths of a stored case.
+pub fn number_at(s: &[u8], at: usize) -> usize
+    requires { ⌜ at + 2 ≤ length (now s) ⌝ }
+    ensures { λ r. ⌜ r ≡ half (now (s .entry)) at ⌝ }
+    ensures { λ r. ⌜ r < 65536 ⌝ }
+{
+    particle::read_u16(s, at) as usize
+}
 
 // Reads n bytes from standard input to the start of buf; false where the input ends before.
 pub fn filled(buf: &mut [u8], n: usize) -> bool
