@@ -8,7 +8,7 @@ from collections import Counter
 import layout
 import marker
 from draft import read
-from judgement import Subject, path
+from judgement import path
 from printed import paper_text
 from rules import Judge
 from sheet import SET_REASONS
@@ -202,12 +202,11 @@ def set_apart(node, seen=None):
 def is_a_paper(node):
     """Whether the two particles alone would be judged as they are here: the rule
     is that of their kinds, and neither tidying nor the early pass comes before."""
-    alone = node.between == " | " and not any(
-        step.node is node for step in node.outcome.steps)
+    of_two = node.between == " | "
     second_reading = node.rule == "M7" and (
         not node.outcome.steps or not node.outcome.steps[0].wrapped)
     tidied = tidy(node.derived) == node.derived and tidy(node.base) == node.base
-    return alone and not second_reading and tidied and node.derived.maximum != 0
+    return of_two and not second_reading and tidied and node.derived.maximum != 0
 
 
 class Lines(unittest.TestCase):
