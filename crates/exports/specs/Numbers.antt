@@ -61,6 +61,16 @@ markNumber (gives undecided) = 1
 markNumber (gives (fails r)) = r
 markNumber (refused n) = 1000 + n
 
+-- a verdict's own number, or 1000 + the refusal's
+abbrev pub verdictNumber : Answer ℕ → ℕ
+verdictNumber (gives v) = v
+verdictNumber (refused n) = 1000 + n
+
+-- 0 for a sheet that is filled in, or 1000 + the refusal's
+abbrev pub filledNumber : Answer (Unit {0}) → ℕ
+filledNumber (gives done) = 0
+filledNumber (refused n) = 1000 + n
+
 -- the buffer with s at its start, where s fits; else the buffer
 abbrev pub written : List ℕ → List ℕ → List ℕ
 written s out = cond (leb (length s) (length out)) (startingWith s out) out

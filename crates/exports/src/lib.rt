@@ -9,7 +9,9 @@ ghost use Rattle.entries.specs.ItemAnswer.{itemBytes};
 ghost use Rattle.entries.specs.TidyAnswer.{tidyAnswer, tidyBuffer};
 ghost use Rattle.chain.specs.Answer.{chainAnswer, chainBuffer};
 ghost use Rattle.marking.specs.Answer.{markSheet};
-ghost use Rattle.exports.specs.Numbers.{markNumber, totalMinNumber, totalMaxNumber, minNumber, maxNumber, emptiableNumber, countNumber, joinedNumber, written};
+ghost use Rattle.types.specs.Builtin.{builtinParents};
+ghost use Rattle.types.specs.Answer.{typeAnswer, fillAnswer, filledSheet};
+ghost use Rattle.exports.specs.Numbers.{markNumber, totalMinNumber, totalMaxNumber, minNumber, maxNumber, emptiableNumber, countNumber, joinedNumber, verdictNumber, filledNumber, written};
 use chain::JoinedAnswer;
 use entries::EmptiableAnswer;
 use entries::TidiedAnswer;
@@ -17,6 +19,8 @@ use entries::TotalAnswer;
 use marking::MarkAnswer;
 use totals::TotalMax;
 use totals::TotalMin;
+use types::FilledAnswer;
+use types::TypeAnswer;
 
 // 2 to the power 32: no exact minimum and no bounded maximum reaches it.
 const BEYOND: u64 = 4294967296;
@@ -124,6 +128,32 @@ pub extern "C" fn marker_effective_particle(chain: &[u8], out: &mut [u8]) -> u64
         JoinedAnswer::Records(n) => n as u64,
         JoinedAnswer::NoContent => 0,
         JoinedAnswer::Refused(r) => BEYOND + (intake::number(r) as u64),
+    }
+}
+
+// The verdict for two built-in types by their numbers: 0 ok, 148 where the derived is neither the base nor derived from it, or 1000 + N
+// where it is refused with N, 17.
+#[no_mangle]
+pub extern "C" fn marker_type_derivation_ok(derived: u32, base: u32) -> u32
+    ensures { λ r. ⌜ r ≡ verdictNumber (typeAnswer builtinParents derived base) ⌝ }
+{
+    match types::type_derivation_ok(derived, base) {
+        TypeAnswer::Ok => 0,
+        TypeAnswer::NotDerived => types::NOT_DERIVED as u32,
+        TypeAnswer::Refused(r) => REFUSED + intake::number(r),
+    }
+}
+
+// 0 where the sheet's second table is filled in from the types of its elements, by a number for each leaf, or 1000 + N where it is
+// refused with N and nothing is written. Only what is 1 for two elements changes; every other byte of s keeps its value.
+#[no_mangle]
+pub extern "C" fn marker_fill_types(s: &mut [u8], numbers: &[u8]) -> u32
+    ensures { λ r. ⌜ r ≡ filledNumber (fillAnswer builtinParents (now (s .entry)) (now (numbers .entry))) ⌝ }
+    ensures { λ _. ⌜ now (s .exit) ≡ filledSheet builtinParents (now (s .entry)) (now (numbers .entry)) ⌝ }
+{
+    match types::fill_types(s, numbers) {
+        FilledAnswer::Filled => 0,
+        FilledAnswer::Refused(r) => REFUSED + intake::number(r),
     }
 }
 

@@ -6,7 +6,7 @@ use Prim.Native.Nat.{ℕ}
 use lib.Dec.{eqb}
 use Rattle.intake.specs.declared.Fault.the-variants.{Fields, Pair, AllGroup, Depth, Counts}
 use Rattle.intake.specs.declared.Refusal.{Refusal}
-use Rattle.intake.specs.declared.Refusal.the-variants.{Contents, Buffer, Leaf, Verdict, Base, Derived, Chain, Limit}
+use Rattle.intake.specs.declared.Refusal.the-variants.{Contents, Buffer, Leaf, Verdict, Base, Derived, Chain, Limit, TypeNumber}
 use Rattle.intake.specs.Number.{refusalNumber}
 
 -- the first of a list that has this number
@@ -19,7 +19,7 @@ refusals =
     Contents ∷ Buffer ∷ Leaf ∷ Verdict
     ∷ Base Fields ∷ Base Pair ∷ Base AllGroup ∷ Base Depth ∷ Base Counts
     ∷ Derived Fields ∷ Derived Pair ∷ Derived AllGroup ∷ Derived Depth ∷ Derived Counts
-    ∷ Chain ∷ Limit
+    ∷ Chain ∷ Limit ∷ TypeNumber
     ∷ []
 
 abbrev pub refusalOf : ℕ → Refusal
@@ -43,6 +43,7 @@ refusal-back (Derived Depth) = refl
 refusal-back (Derived Counts) = refl
 refusal-back Chain = refl
 refusal-back Limit = refl
+refusal-back TypeNumber = refl
 
 pub one-refusal : (r q : Refusal) → refusalNumber r ≡ refusalNumber q → r ≡ q
 one-refusal r q e = sym (refusal-back r) ∙ (ap refusalOf e ∙ refusal-back q)

@@ -18,7 +18,7 @@ pub enum Fault {
     Counts,
 }
 
-// Why a sheet, a tree, a chain or a buffer is turned away.
+// Why a sheet, a tree, a chain, a type number or a buffer is turned away.
 pub enum Refusal {
     Contents,
     Buffer,
@@ -28,6 +28,7 @@ pub enum Refusal {
     Derived(Fault),
     Chain,
     Limit,
+    TypeNumber,
 }
 
 // What the check of a tree finds.
@@ -220,6 +221,7 @@ pub fn number(r: Refusal) -> u32
         Refusal::Derived(f) => 10 + place(f),
         Refusal::Chain => 15,
         Refusal::Limit => 16,
+        Refusal::TypeNumber => 17,
     }
 }
 

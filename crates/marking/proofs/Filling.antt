@@ -26,7 +26,7 @@ module _ {s s′ : List ℕ} (f : FilledSheet s s′) where
   after : (i : ℕ) → derivedAt (leafCount s) ≤ i → getD s′ i 0 ≡ getD s i 0
   after i l = f .others i (λ v. omega (arith, v .1))
 
-  same : SameContents s s′
+  pub same : SameContents s s′
   same = same-contents s s′ (λ i l. before i (omega arith))
 
   same-contents-ok : contentsOk s′ ≡ contentsOk s
@@ -49,7 +49,7 @@ module _ {s s′ : List ℕ} (f : FilledSheet s s′) where
       let l′ : i < length (take size (drop at s)) = omega (arith, same-size at size) in
       p .1 ∙ (g i (p .0) ∙ sym (part-at s at size i l′ .1)))
 
-  same-leaves : leavesPart s′ ≡ leavesPart s
+  pub same-leaves : leavesPart s′ ≡ leavesPart s
   same-leaves = rw (same .leaves) (same-part contentsSize (leafSize * leafCount s) (λ i l. before (contentsSize + i) (omega arith)))
 
   same-derived : derivedPart s′ ≡ derivedPart s
@@ -73,7 +73,7 @@ module _ {s s′ : List ℕ} (f : FilledSheet s s′) where
 
   -- What is read from them ------------------------------------------------------
 
-  same-refusal : sheetRefusal s′ ≡ sheetRefusal s
+  pub same-refusal : sheetRefusal s′ ≡ sheetRefusal s
   unfolding sheetRefusal
   same-refusal = rw (same-contents-ok, same-verdicts, same-leaves, same-derived, same-base, same .leaves)
 

@@ -12,11 +12,13 @@ use Rattle.entries.specs.ItemAnswer.{itemBytes}
 use Rattle.entries.specs.TidyAnswer.{tidyAnswer, tidyBuffer}
 use Rattle.chain.specs.Answer.{chainAnswer, chainBuffer}
 use Rattle.marking.specs.Answer.{markSheet}
-use Rattle.exports.specs.Numbers.{markNumber, minNumber, maxNumber, emptiableNumber, countNumber, joinedNumber, written}
+use Rattle.types.specs.Builtin.{builtinParents}
+use Rattle.types.specs.Answer.{typeAnswer, fillAnswer, filledSheet}
+use Rattle.exports.specs.Numbers.{markNumber, minNumber, maxNumber, emptiableNumber, countNumber, joinedNumber, verdictNumber, filledNumber, written}
 use Rattle.replay.specs.declared.Operation.{Operation}
-use Rattle.replay.specs.declared.Operation.the-variants.{Mark, TotalMin, TotalMax, Emptiable, Tidy, Item, Join}
+use Rattle.replay.specs.declared.Operation.the-variants.{Mark, TotalMin, TotalMax, Emptiable, Tidy, Item, Join, TypeDerivation, FillTypes}
 
--- the number that the entry answers, from the sheet, tree or chain and the buffer
+-- the number that the entry answers, from the sheet, tree, chain or type numbers and the buffer
 abbrev pub numberOf : Operation → List ℕ → List ℕ → ℕ
 numberOf Mark s out = markNumber (markSheet s)
 numberOf TotalMin t out = minNumber (answer (refusalAlone t) (total (tree t)))
@@ -25,6 +27,8 @@ numberOf Emptiable t out = emptiableNumber (answer (refusalAlone t) (emptiable (
 numberOf Tidy t out = countNumber (tidyAnswer t out)
 numberOf (Item k) t out = length (itemBytes k t)
 numberOf Join c out = joinedNumber (chainAnswer c out)
+numberOf (TypeDerivation d b) input out = verdictNumber (typeAnswer builtinParents d b)
+numberOf FillTypes types s = filledNumber (fillAnswer builtinParents s types)
 
 -- the buffer after the call
 abbrev pub bufferOf : Operation → List ℕ → List ℕ → List ℕ
@@ -35,6 +39,8 @@ bufferOf Emptiable t out = out
 bufferOf Tidy t out = tidyBuffer t out
 bufferOf (Item k) t out = written (itemBytes k t) out
 bufferOf Join c out = chainBuffer c out
+bufferOf (TypeDerivation d b) input out = out
+bufferOf FillTypes types s = filledSheet builtinParents s types
 
 -- the stored number and the stored buffer are those that the definitions give
 pub record Agrees (op : Operation) (input before : List ℕ) (number : ℕ) (after : List ℕ) : Type 0 where

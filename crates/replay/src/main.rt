@@ -3,7 +3,7 @@
 // operation that is unknown.
 //
 // The input is one case after another. A case has a head of 15 bytes, its numbers little-endian: the operation (8 bits), k (16), the length
-// of the sheet, tree or chain (16), the length of the lent buffer (16), the answer (64). Then come the sheet, tree or chain, the buffer before the call,
+// of the sheet, tree, chain or type numbers (16), the length of the lent buffer (16), the answer (64). Then come these, the buffer before the call,
 // and the buffer after it. The operations, and the entry that each of them asks, in the numbers of crates/exports:
 //   1  marker_mark, over marking::mark
 //   2  marker_total_min, over entries::total_range
@@ -12,6 +12,9 @@
 //   5  marker_tidy, over entries::tidy
 //   6  marker_item, over entries::item: the k-th item
 //   7  marker_effective_particle, over chain::effective_particle
+//   8  marker_type_derivation_ok, over types::type_derivation_ok: k's lower byte is the derived type, its higher byte the base's; there is
+//      no input
+//   9  marker_fill_types, over types::fill_types: the input is the type numbers, the lent buffer the sheet
 ghost use mathlib.Core.Path.{_≡_};
 ghost use lib.ListN.{length};
 ghost use Rattle.replay.specs.Expected.{numberOf, bufferOf, Agrees};
@@ -36,6 +39,8 @@ enum Operation {
     Tidy,
     Item(usize),
     Join,
+    TypeDerivation(u32, u32),
+    FillTypes,
 }
 
 // What an operation's number stands for.
@@ -58,7 +63,7 @@ fn stored_answer(s: &[u8; HEAD]) -> u64 {
     (particle::read_u32(s, 7) as u64) + (particle::read_u32(s, 11) as u64) * 4294967296
 }
 
-fn asked_for(number: u8, k: usize) -> Asked {
+fn asked_for(number: u8, k: usize, low: u8, high: u8) -> Asked {
     match number {
         1 => Asked::For(Operation::Mark),
         2 => Asked::For(Operation::TotalMin),
@@ -67,6 +72,8 @@ fn asked_for(number: u8, k: usize) -> Asked {
         5 => Asked::For(Operation::Tidy),
         6 => Asked::For(Operation::Item(k)),
         7 => Asked::For(Operation::Join),
+        8 => Asked::For(Operation::TypeDerivation(low as u32, high as u32)),
+        9 => Asked::For(Operation::FillTypes),
         _ => Asked::Nothing,
     }
 }
@@ -84,6 +91,8 @@ fn answer(op: Operation, input: &[u8], lent: &mut [u8]) -> u64
         Operation::Tidy => exports::marker_tidy(input, lent),
         Operation::Item(k) => exports::marker_item(input, k, lent) as u64,
         Operation::Join => exports::marker_effective_particle(input, lent),
+        Operation::TypeDerivation(d, b) => exports::marker_type_derivation_ok(d, b) as u64,
+        Operation::FillTypes => exports::marker_fill_types(lent, input) as u64,
     }
 }
 
@@ -146,7 +155,7 @@ fn replay_next(input: &mut [u8; ROOM], lent: &mut [u8; ROOM], after: &mut [u8; R
     if got < HEAD {
         return Outcome::CutOff;
     }
-    match asked_for(head[0], streams::number_at(&head, 1)) {
+    match asked_for(head[0], streams::number_at(&head, 1), head[1], head[2]) {
         Asked::Nothing => Outcome::Unknown,
         Asked::For(op) => replay_body(op, &head, input, lent, after),
     }

@@ -59,6 +59,10 @@ in-range w = rw (le-leb _ _ (w .low), le-leb _ _ (w .high))
 pub sound : (s : List ℕ) → Contents s → contentsOk s ≡ true
 sound s c = rw (le-leb _ _ (c .start), in-range (c .leaves), in-range (c .derived), in-range (c .base), eq-eqb _ _ (c .zero), eq-eqb _ _ (c .field), eq-eqb _ _ (c .whole))
 
+-- a place that was found from the count n
+pub place-by : (place : ℕ → ℕ) {n c r : ℕ} → r ≡ place n → n ≡ c → r ≡ place c
+place-by place e l = e ∙ ap place l
+
 -- a part of s, by where it starts and ends
 part-is : (s : List ℕ) {start end at : ℕ} (size : ℕ) → start ≡ at → end ≡ at + size → take (end - start) (drop start s) ≡ take size (drop at s)
 part-is s {start} {end} {at} size e f =

@@ -37,6 +37,13 @@ module _ (s : List ℕ) {n : ℕ} (ne : n ≡ leafCount s) {part : List ℕ} (pe
   pub kinds-within : n ≤ length kinds
   kinds-within = omega (arith, kind-each, length-take n kinds)
 
+-- as they are put down for a caller
+pub leaves-fit-in : (s : List ℕ) → contentsOk s ≡ true → {n : ℕ} → n ≡ leafCount s → {room : ℕ} → maxLeaves ≤ room → n ≤ room
+leaves-fit-in s c e h = omega (arith, few-leaves s c e)
+
+pub kinds-put : (s : List ℕ) {n : ℕ} → n ≡ leafCount s → {part : List ℕ} → part ≡ leavesPart s → (kinds : List ℕ) → take n kinds ≡ kindsOf (leavesIn n part) → take (leafCount s) kinds ≡ kindsOf (leafList s)
+kinds-put s ne pe kinds k = rw (pe, ne) at k
+
 -- The checks: c, l and v say what the tests of contents, leaves and verdicts found -
 
 module _ (s : List ℕ) {c : Bool} (ce : c ≡ contentsOk s) where

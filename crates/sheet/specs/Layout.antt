@@ -29,6 +29,9 @@ totalField s = half s 6
 abbrev pub tablesAt : ℕ → ℕ
 tablesAt n = contentsSize + leafSize * n
 
+abbrev pub secondAt : ℕ → ℕ
+secondAt n = tablesAt n + n * n
+
 abbrev pub derivedAt : ℕ → ℕ
 derivedAt n = tablesAt n + 2 * (n * n)
 
@@ -53,6 +56,10 @@ leavesPart s = take (leafSize * leafCount s) (drop contentsSize s)
 -- both tables, the first before the second
 abbrev pub tablesPart : List ℕ → List ℕ
 tablesPart s = take (2 * (leafCount s * leafCount s)) (drop (tablesAt (leafCount s)) s)
+
+-- the second table
+abbrev pub secondPart : List ℕ → List ℕ
+secondPart s = take (leafCount s * leafCount s) (drop (secondAt (leafCount s)) s)
 
 abbrev pub derivedPart : List ℕ → List ℕ
 derivedPart s = take (recordSize * derivedCount s) (drop (derivedAt (leafCount s)) s)

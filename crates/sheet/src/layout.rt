@@ -4,7 +4,7 @@ ghost use mathlib.Core.Bool.{true};
 ghost use Prim.Native.Nat.{_*_, _^_, _≤_, _<_};
 ghost use lib.ListN.{length};
 ghost use Rattle.particle.specs.Record.{recordSize};
-ghost use Rattle.sheet.specs.Layout.{contentsSize, leafCount, derivedCount, baseCount, zeroByte, totalField, tablesAt, derivedAt, baseAt, totalOf, leavesPart, tablesPart, derivedPart, basePart};
+ghost use Rattle.sheet.specs.Layout.{contentsSize, leafCount, derivedCount, baseCount, zeroByte, totalField, tablesAt, secondAt, derivedAt, baseAt, totalOf, leavesPart, tablesPart, derivedPart, basePart};
 ghost use Rattle.sheet.specs.Refused.{inRange, countsOk, contentsOk};
 use intake::MAX_LEAVES;
 use particle::MAX_RECORDS;
@@ -69,6 +69,13 @@ fn square(n: u8) -> usize
     ensures { λ r. ⌜ (r ≡ n * n) × (r < 65536) ⌝ }
 {
     wide(n) * wide(n)
+}
+
+// Where the second table starts.
+fn second_start(n: u8) -> usize
+    ensures { λ r. ⌜ r ≡ secondAt n ⌝ }
+{
+    tables_at(n) + square(n)
 }
 
 // Where the derived tree starts.
@@ -161,6 +168,21 @@ pub fn tables(s: &[u8]) -> &[u8]
     let start = tables_at(n);
     let end = derived_at(n);
     &s[start..end]
+}
+
+// Where the second table starts and where it ends, for a caller that writes it.
+pub fn second_at(s: &[u8]) -> usize
+    requires { ⌜ contentsOk (now s) ≡ true ⌝ }
+    ensures { λ r. ⌜ r ≡ secondAt (leafCount (now (s .entry))) ⌝ }
+{
+    second_start(leaf_count(s))
+}
+
+pub fn second_end(s: &[u8]) -> usize
+    requires { ⌜ contentsOk (now s) ≡ true ⌝ }
+    ensures { λ r. ⌜ r ≡ derivedAt (leafCount (now (s .entry))) ⌝ }
+{
+    derived_at(leaf_count(s))
 }
 
 // The derived tree.

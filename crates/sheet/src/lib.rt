@@ -4,14 +4,20 @@ mod layout;
 
 ghost use mathlib.Core.Path.{_≡_};
 ghost use mathlib.Core.Bool.{true};
+ghost use Prim.Native.Nat.{_≤_};
+ghost use lib.ListN.{length, take};
+ghost use Rattle.intake.specs.Limits.{maxLeaves};
 ghost use Rattle.intake.specs.Scan.{listed};
-ghost use Rattle.sheet.specs.Refused.{contentsOk, treesRefusal, sheetRefusal};
+ghost use Rattle.sheet.specs.Layout.{leafCount, leafList};
+ghost use Rattle.sheet.specs.Refused.{contentsOk, kindsOf, treesRefusal, sheetRefusal};
 use intake::Checked;
 use intake::Refusal;
 pub use layout::base;
 pub use layout::derived;
 pub use layout::leaf_count;
 pub use layout::leaves;
+pub use layout::second_at;
+pub use layout::second_end;
 pub use layout::tables;
 
 // What the check of a sheet finds.
@@ -34,6 +40,15 @@ fn check_trees(s: &[u8], kinds: &[u8]) -> SheetChecked
             Checked::Accepted => SheetChecked::Accepted,
         },
     }
+}
+
+// The kinds of the sheet's leaves, at the start of out.
+pub fn leaf_kinds(s: &[u8], out: &mut [u8])
+    requires { ⌜ contentsOk (now s) ≡ true ⌝ }
+    requires { ⌜ maxLeaves ≤ length (now out) ⌝ }
+    ensures { λ _. ⌜ take (leafCount (now (s .entry))) (now (out .exit)) ≡ kindsOf (leafList (now (s .entry))) ⌝ }
+{
+    bodies::read_leaves(layout::leaves(s), leaf_count(s) as usize, out);
 }
 
 // The first refusal of a sheet. Every byte string is an input.

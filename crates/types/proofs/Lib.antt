@@ -1,0 +1,14 @@
+pub mod Chains
+pub mod BuiltinTable
+pub mod Steps
+pub mod Rows
+pub mod Answers
+pub mod Entry
+pub mod Cells
+pub mod Verdicts
+pub mod FilledIn
+pub mod OneAnswer
+pub mod Filled
+pub mod NoneUndecided
+pub mod TypesOk
+pub mod Examples

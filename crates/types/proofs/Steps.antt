@@ -1,0 +1,99 @@
+-- What the code's tests say, one by one: a parent, a verdict for two types, the type numbers, a verdict filled in. Assumes nothing.
+use mathlib.Core.Path.{_≡_, refl, ap, sym, _∙_}
+use mathlib.Core.Bool.{Bool, true, false, cond, not, _&&_, _||_, or-true, and-false}
+use mathlib.Core.List.{List, [], _∷_}
+use Prim.Native.Nat.{ℕ, zero, suc, _+_, _≤_, _<_}
+use native.Mathlib.Numerals.{add-one}
+use native.Mathlib.Omega.{arith}
+use lib.Dec.{eqb, leb, ltb}
+use lib.ListN.{length, getD, drop, List·getD-eq-default}
+use lib.Seq.{drop-cons, drop-length}
+use borrow.Author.Tests.{le-leb, lt-leb, eq-eqb, ne-eqb, not-true, not-false}
+use Rattle.types.specs.Derives.{parentOf, hasType, derives, notDerived, typeVerdict}
+use Rattle.types.specs.Fill.{isElement, typesOk, fillVerdict}
+
+pub no-parent : (parents : List ℕ) (t : ℕ) → length parents ≤ t → 0 ≡ parentOf parents t
+no-parent parents t h = sym (List·getD-eq-default parents 0 h)
+
+-- The verdict for two types ----------------------------------------------------
+
+module _ (parents : List ℕ) (d b : ℕ) where
+  pub low-base : b ≤ 1 → 0 ≡ typeVerdict parents d b
+  low-base h = rw (le-leb b 1 h)
+
+  module _ {r : Bool} (e : r ≡ derives parents d b) where
+    pub derived-base : r ≡ true → 0 ≡ typeVerdict parents d b
+    derived-base t = rw (sym e ∙ t, or-true (leb b 1))
+
+    pub other-base : 1 < b → r ≡ false → notDerived ≡ typeVerdict parents d b
+    other-base h f = rw (lt-leb b 1 h, sym e ∙ f)
+
+-- The type numbers -------------------------------------------------------------
+
+module _ (parents : List ℕ) (kind t : ℕ) where
+  pub element-type : kind ≡ 0 → {u : ℕ} → u ≡ t → {r : Bool} → r ≡ hasType parents u → r ≡ (not (isElement kind) || hasType parents t)
+  element-type k q e = rw (eq-eqb kind 0 k, e, q)
+
+  pub wildcard-type : (kind ≡ 0 → ⊥) → true ≡ (not (isElement kind) || hasType parents t)
+  wildcard-type k = rw (ne-eqb kind 0 k)
+
+pub not-so-many : (parents kinds types : List ℕ) → (length types ≡ length kinds → ⊥) → false ≡ typesOk parents kinds types
+unfolding typesOk
+not-so-many parents [] [] h = absurd (h refl)
+not-so-many parents [] (t ∷ ts) h = refl
+not-so-many parents (k ∷ ks) [] h = refl
+not-so-many parents (k ∷ ks) (t ∷ ts) h = sym (ap (λ (x : Bool). (not (isElement k) || hasType parents t) && x) (sym (not-so-many parents ks ts (λ e. h (ap suc e)))) ∙ and-false (not (isElement k) || hasType parents t))
+
+-- the first i type numbers are in order
+pub record TypesLeft (parents kinds types : List ℕ) (i : ℕ) : Type 0 where
+  pub within : i ≤ length kinds
+  pub same-size : length types ≡ length kinds
+  pub rest : typesOk parents (drop i kinds) (drop i types) ≡ typesOk parents kinds types
+
+module _ (parents kinds types : List ℕ) where
+  pub types-start : length types ≡ length kinds → TypesLeft parents kinds types 0
+  types-start e = record { within = omega arith; same-size = e; rest = refl }
+
+  module _ (i : ℕ) (v : TypesLeft parents kinds types i) where
+    pub type-within : i < length kinds → i < length types
+    type-within h = omega (arith, v .same-size)
+
+    turn : i < length kinds → typesOk parents (drop i kinds) (drop i types) ≡ ((not (isElement (getD kinds i 0)) || hasType parents (getD types i 0)) && typesOk parents (drop (i + 1) kinds) (drop (i + 1) types))
+    unfolding typesOk
+    turn h =
+        rw (drop-cons kinds i 0 h, drop-cons types i 0 (type-within h), add-one)
+
+    module _ (h : i < length kinds) {r : Bool} (e : r ≡ (not (isElement (getD kinds i 0)) || hasType parents (getD types i 0))) where
+      pub type-bad : not r ≡ true → false ≡ typesOk parents kinds types
+      type-bad t = sym (sym (v .rest) ∙ (turn h ∙ rw (sym e ∙ not-true r t)))
+
+      pub type-next : not r ≡ false → TypesLeft parents kinds types (i + 1)
+      type-next t = record {
+        within = omega arith;
+        same-size = v .same-size;
+        rest = sym (turn h ∙ rw (sym e ∙ not-false r t)) ∙ v .rest;
+      }
+
+    pub types-done : length kinds ≤ i → true ≡ typesOk parents kinds types
+    unfolding typesOk
+    types-done h =
+        let q : i ≡ length kinds = omega (arith, v .within) in
+        let p : i ≡ length types = omega (arith, v .same-size) in
+        let k : drop i kinds ≡ [] = ap (λ (n : ℕ). drop n kinds) q ∙ drop-length kinds in
+        let t : drop i types ≡ [] = ap (λ (n : ℕ). drop n types) p ∙ drop-length types in
+        sym (sym (v .rest) ∙ rw (k, t))
+
+-- A verdict filled in ----------------------------------------------------------
+
+module _ (parents kinds types : List ℕ) (l m v : ℕ) where
+  pub decided : (v ≡ 1 → ⊥) → v ≡ fillVerdict parents kinds types l m v
+  decided h = rw (ne-eqb v 1 h)
+
+  pub row-wildcard : (getD kinds l 0 ≡ 0 → ⊥) → v ≡ fillVerdict parents kinds types l m v
+  row-wildcard h = rw (ne-eqb (getD kinds l 0) 0 h, and-false (eqb v 1))
+
+  pub column-wildcard : (getD kinds m 0 ≡ 0 → ⊥) → v ≡ fillVerdict parents kinds types l m v
+  column-wildcard h = rw (ne-eqb (getD kinds m 0) 0 h, and-false (isElement (getD kinds l 0)), and-false (eqb v 1))
+
+  pub element-pair : v ≡ 1 → getD kinds l 0 ≡ 0 → getD kinds m 0 ≡ 0 → {d b : ℕ} → d ≡ getD types l 0 → b ≡ getD types m 0 → {r : ℕ} → r ≡ typeVerdict parents d b → r ≡ fillVerdict parents kinds types l m v
+  element-pair u k j d b e = rw (eq-eqb v 1 u, eq-eqb (getD kinds l 0) 0 k, eq-eqb (getD kinds m 0) 0 j, e, d, b)

@@ -1,0 +1,26 @@
+-- `fill` meets its contract. Assumes nothing.
+use mathlib.Core.Path.{refl}
+use borrow.Author.Needs.{needs}
+use Rattle.sheet.proofs.Contents.{start-within}
+use Rattle.types.proofs.Entry.{refuses, sheet-refused, accepted, contents-found, same-kinds, kind-each, kinds-within}
+use Rattle.types.proofs.fill.Statement.{statement}
+use Rattle.types.proofs.fill.Tie as tie
+
+pub fill-spec : {M : Type 1} → statement M
+fill-spec =
+    tie.close
+    (tie.spec
+    (λ c κs. search needs)
+    (λ c. search needs)
+    (λ c. search needs)
+    (λ c. refuses _ _ _ refl _ (search sheet-refused))
+    (λ c. search needs)
+    (λ c κs. search (start-within, contents-found))
+    (λ c. search needs)
+    (λ c. search needs)
+    (λ c κs. (search contents-found, search needs))
+    (λ c. search kinds-within)
+    (λ c. search kind-each)
+    (λ c κs. (search needs, (search accepted, search same-kinds)))
+    (λ c. search needs)
+    (λ c. search needs))

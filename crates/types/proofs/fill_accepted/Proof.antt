@@ -1,0 +1,19 @@
+-- `fill_accepted` meets its contract. Assumes nothing.
+use mathlib.Core.Path.{refl}
+use borrow.Author.Needs.{needs}
+use Rattle.intake.specs.declared.Refusal.the-variants.{TypeNumber}
+use Rattle.intake.specs.Number.{refusalNumber}
+use Rattle.sheet.proofs.Tests.{test-passed}
+use Rattle.types.proofs.Entry.{contents-ok, refuses, types-refused, filled-answer, fills}
+use Rattle.types.proofs.fill_accepted.Statement.{statement}
+use Rattle.types.proofs.fill_accepted.Tie as tie
+
+pub fill-accepted-spec : {M : Type 1} → statement M
+fill-accepted-spec =
+    tie.close
+    (tie.spec
+    (λ c κs. search needs)
+    (λ c. refuses _ _ _ refl (refusalNumber TypeNumber) (search types-refused))
+    (λ c κs. (search needs, (search contents-ok, (search needs, search test-passed))))
+    (λ c. search needs)
+    (λ c. fills _ _ _ (search needs) (search filled-answer)))

@@ -1,0 +1,47 @@
+-- What the verdict for two types and the filling of a lent sheet answer, and what the sheet then holds. Assumes nothing: these are definitions.
+use mathlib.Core.Bool.{Bool, true, false, cond, _&&_}
+use mathlib.Core.List.{List}
+use Prim.Native.Nat.{ℕ}
+use Rattle.intake.specs.declared.Refusal.the-variants.{TypeNumber}
+use Rattle.intake.specs.Number.{refusalNumber}
+use Rattle.entries.specs.Answer.{Answer, gives, refused}
+use Rattle.sheet.specs.declared.SheetChecked.{SheetChecked}
+use Rattle.sheet.specs.declared.SheetChecked.the-variants as checked
+use Rattle.sheet.specs.Refused.{sheetRefusal}
+use Rattle.types.specs.declared.TypeAnswer.{TypeAnswer}
+use Rattle.types.specs.declared.TypeAnswer.the-variants as verdict
+use Rattle.types.specs.declared.FilledAnswer.{FilledAnswer}
+use Rattle.types.specs.declared.FilledAnswer.the-variants as filled
+use Rattle.types.specs.Derives.{hasType, notDerived, typeVerdict}
+use Rattle.types.specs.Fill.{leafKinds, typesOk, fillSheet}
+
+-- 17: a type number that the table does not have; else the verdict
+unfoldable pub typeAnswer : (parents : List ℕ) (derived base : ℕ) → Answer ℕ
+typeAnswer parents d b = cond (hasType parents d && hasType parents b) (gives (typeVerdict parents d b)) (refused (refusalNumber TypeNumber))
+
+-- 1 to 14 by the sheet, then 17
+abbrev pub fillOr : SheetChecked → (typesOk : Bool) → Answer (Unit {0})
+fillOr (checked.Refused r) ok = refused (refusalNumber r)
+fillOr checked.Accepted false = refused (refusalNumber TypeNumber)
+fillOr checked.Accepted true = gives tt
+
+unfoldable pub fillAnswer : (parents s types : List ℕ) → Answer (Unit {0})
+fillAnswer parents s types = fillOr (sheetRefusal s) (typesOk parents (leafKinds s) types)
+
+-- the sheet after this answer: a refusal writes nothing
+abbrev pub sheetAfter : Answer (Unit {0}) → (written before : List ℕ) → List ℕ
+sheetAfter (refused n) written before = before
+sheetAfter (gives done) written before = written
+
+unfoldable pub filledSheet : (parents s types : List ℕ) → List ℕ
+filledSheet parents s types = sheetAfter (fillAnswer parents s types) (fillSheet parents s types) s
+
+-- what each case of the answers' enums stands for
+abbrev pub typeMeaning : TypeAnswer → Answer ℕ
+typeMeaning verdict.Ok = gives 0
+typeMeaning verdict.NotDerived = gives notDerived
+typeMeaning (verdict.Refused r) = refused (refusalNumber r)
+
+abbrev pub fillMeaning : FilledAnswer → Answer (Unit {0})
+fillMeaning filled.Filled = gives tt
+fillMeaning (filled.Refused r) = refused (refusalNumber r)

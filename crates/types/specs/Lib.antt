@@ -1,0 +1,5 @@
+pub mod Builtin
+pub mod Derives
+pub mod Fill
+pub mod Answer
+pub mod Facts
