@@ -1,13 +1,15 @@
-//! Inputs that are not drawn: trees, sheets and chains with their answers
+//! Inputs that are not drawn: trees, sheets, chains and types with their answers
 //! written down by hand, and every small one.
 
 pub mod known_chains;
 pub mod known_sheets;
 pub mod known_totals;
 pub mod known_trees;
+pub mod known_types;
 pub mod limits;
 mod record_counts;
 pub mod small_chains;
 pub mod small_trees;
+pub mod small_types;
 pub mod stated;
 pub mod tiny_sheets;

@@ -1,5 +1,5 @@
 //! The numbers by which the exported functions answer (crates/exports), and
-//! the words for a mark's.
+//! the words for them.
 
 /// What a maximum is where it is unbounded, and what is added to a refusal's
 /// number in place of a total or a count.
@@ -13,6 +13,12 @@ pub const REFUSED: u32 = 1000;
 
 /// The refusals of a sheet.
 pub const REFUSALS: [u32; 13] = [1, 3, 4, 5, 6, 7, 8, 9, 10, 11, 12, 13, 14];
+
+/// The refusal of types, after those of the sheet (document 02 §6).
+pub const TYPE_NUMBER: u32 = 17;
+
+/// The reason where a type is not derived from the base's.
+pub const NOT_DERIVED: u32 = 148;
 
 /// Every reason that a sheet's mark can show: 110, 111, 112 and 125 arise only
 /// in the second of an element's two readings, whose reason is never the mark's.
@@ -35,6 +41,29 @@ pub fn text(answer: u32) -> String {
         1 => "undecided".into(),
         101..=152 => format!("fails {answer}"),
         1001..=1014 => format!("refused {}", answer - REFUSED),
+        _ => format!("{answer}, which is no answer"),
+    }
+}
+
+/// The words for the verdict on two types, or for its refusal.
+pub fn type_text(answer: u32) -> String {
+    match answer {
+        0 => "ok".into(),
+        NOT_DERIVED => "fails 148".into(),
+        _ => types_refused(answer),
+    }
+}
+
+/// The words for the answer of a filling.
+pub fn fill_text(answer: u32) -> String {
+    if answer == 0 { "filled".into() } else { types_refused(answer) }
+}
+
+fn types_refused(answer: u32) -> String {
+    match answer.checked_sub(REFUSED) {
+        Some(number) if number == TYPE_NUMBER || REFUSALS.contains(&number) => {
+            format!("refused {number}")
+        }
         _ => format!("{answer}, which is no answer"),
     }
 }

@@ -12,13 +12,14 @@ pub struct Options {
     pub records: u64,
 }
 
-/// The run whose chains are drawn without such a bound.
-const ANY_RECORDS: &str = "chains";
+/// The runs whose chains and sheets are drawn without such a bound.
+const ANY_RECORDS: [&str; 2] = ["chains", "types"];
 
 /// The arguments of `compare/run WHAT`, from these numbers on. Bad ones end
 /// the program with status 2.
 pub fn read(what: &str, count: u64, damaged: u64) -> Options {
-    let records = if what == ANY_RECORDS { "" } else { " [--records R]" };
+    let bounded = !ANY_RECORDS.contains(&what);
+    let records = if bounded { " [--records R]" } else { "" };
     let usage = |message: &str| -> ! {
         eprintln!(
             "{message}\nusage: compare/run {what} [--seed S] [--count N] [--damaged N]{records}"
@@ -32,7 +33,7 @@ pub fn read(what: &str, count: u64, damaged: u64) -> Options {
             "--seed" => &mut options.seed,
             "--count" => &mut options.count,
             "--damaged" => &mut options.damaged,
-            "--records" if what != ANY_RECORDS => &mut options.records,
+            "--records" if bounded => &mut options.records,
             _ => usage(&format!("unknown argument {word}")),
         };
         match words.next().map(|value| value.parse()) {

@@ -188,3 +188,27 @@ impl Bodies {
         }
     }
 }
+
+/// Contents, leaves, rows of the tables and records, each by itself; where the
+/// counts do not fit the length, all bytes in one row.
+pub fn hex(bytes: &[u8]) -> String {
+    let digits = |part: &[u8]| part.iter().map(|byte| format!("{byte:02x}")).collect::<String>();
+    let fits = |bytes: &[u8]| Counts::read(bytes).places().base.end == bytes.len();
+    if bytes.len() < CONTENTS || !fits(bytes) {
+        return digits(bytes);
+    }
+    let bodies = Bodies::split(bytes);
+    let n = Counts::read(bytes).leaves.max(1);
+    let parts = [
+        (&bodies.leaves, LEAF_BYTES),
+        (&bodies.first, n),
+        (&bodies.second, n),
+        (&bodies.derived, RECORD),
+        (&bodies.base, RECORD),
+    ];
+    let mut told = vec![digits(&bytes[..CONTENTS])];
+    for (body, length) in parts {
+        told.extend(body.chunks(length).map(digits));
+    }
+    told.join(" ")
+}

@@ -1,6 +1,6 @@
-//! Random inputs: accepted trees and sheets, chains of accepted trees, and
-//! damaged ones. Each is drawn from a generator of its own, so that seed and
-//! number name it.
+//! Random inputs: accepted trees and sheets, chains of accepted trees, damaged
+//! ones, and the types of a sheet. Each is drawn from a generator of its own, so
+//! that seed and number name it.
 
 pub mod chains;
 pub mod change;
@@ -15,3 +15,4 @@ mod narrow;
 pub mod sheets;
 mod spoil;
 pub mod trees;
+pub mod types;

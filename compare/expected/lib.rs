@@ -6,3 +6,4 @@
 pub mod chain;
 pub mod sheet;
 pub mod tree;
+pub mod types;

@@ -15,6 +15,13 @@ unsafe extern "C" {
         out: *mut u8,
         out_len: usize,
     ) -> u64;
+    fn marker_type_derivation_ok(derived: u32, base: u32) -> u32;
+    fn marker_fill_types(
+        sheet: *mut u8,
+        sheet_len: usize,
+        types: *const u8,
+        types_len: usize,
+    ) -> u32;
 }
 
 /// The total range's minimum, `TOO_LARGE` where it is too large; or `BEYOND` + N
@@ -63,4 +70,18 @@ pub fn mark(sheet: &[u8]) -> u32 {
 #[inline]
 pub fn effective_particle(chain: &[u8], out: &mut [u8]) -> u64 {
     unsafe { marker_effective_particle(chain.as_ptr(), chain.len(), out.as_mut_ptr(), out.len()) }
+}
+
+/// The verdict on two built-in types by their numbers: 0 ok, 148 where the derived
+/// one is not derived from the base; or `REFUSED` + 17 where the list does not
+/// have one of them.
+pub fn type_derivation_ok(derived: u32, base: u32) -> u32 {
+    unsafe { marker_type_derivation_ok(derived, base) }
+}
+
+/// Fills the second table of the sheet from the type numbers of its leaves, and
+/// answers 0; or `REFUSED` + N where it is refused with N, and nothing is
+/// written.
+pub fn fill_types(sheet: &mut [u8], types: &[u8]) -> u32 {
+    unsafe { marker_fill_types(sheet.as_mut_ptr(), sheet.len(), types.as_ptr(), types.len()) }
 }

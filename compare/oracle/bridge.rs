@@ -1,5 +1,5 @@
 //! From a tree to the oracle's particle, and back; from a sheet to its mark;
-//! from a chain to its joined tree.
+//! from a chain to its joined tree; from two built-in types to their verdict.
 
 use std::collections::HashMap;
 use std::sync::Arc;
@@ -11,7 +11,7 @@ use crate::doors;
 use crate::reasons::Mark;
 use crate::stubs::{
     CompiledSchema, ComplexType, DerivationMethod, ElementDef, Particle, ProcessContents, TypeDef,
-    Types, WildcardConstraint,
+    TypedElement, Types, WildcardConstraint,
 };
 
 /// What a sheet says of its leaves, by leaf number. A tree alone needs none of
@@ -106,6 +106,18 @@ pub fn types(chain: &[Option<Tree>]) -> (String, Types) {
         types.insert(name(level), TypeDef::Complex(ct));
     }
     (name(chain.len()), Types(types))
+}
+
+/// The oracle's verdict on elements of these two types, in a schema that defines
+/// no type itself.
+pub fn type_derivation_ok(derived: &str, base: &str) -> Mark {
+    let element = |name: &str, of: &str| TypedElement {
+        name: name.into(),
+        type_ref: Some(of.into()),
+        inline_type: None,
+    };
+    let types = Types(HashMap::new());
+    doors::type_derivation_ok(&element("0", derived), &element("1", base), &types)
 }
 
 /// The tree of a particle.

@@ -4,7 +4,7 @@
 
 use super::Verdict;
 use crate::reasons::{self, Mark};
-use crate::stubs::{CompiledSchema, ComplexType, Particle, Types};
+use crate::stubs::{CompiledSchema, ComplexType, Particle, TypedElement, Types};
 
 /// Called at each entry of the rule that goes by two kinds. `compare/run search`
 /// counts them; elsewhere nothing is done, and no time is taken.
@@ -82,4 +82,17 @@ pub fn effective_total_range(p: &Particle) -> (u32, Option<u32>) {
 /// The content of a type with what it inherits, as `check_restriction` asks.
 pub fn effective_particle(ct: &ComplexType, types: &Types) -> Option<Particle> {
     super::effective_particle(ct, types, 0)
+}
+
+/// The names that `builtin_parent` knows, in the order of its text.
+pub fn builtin_names() -> &'static [&'static str] {
+    &super::names::NAMES
+}
+
+pub fn builtin_parent(local: &str) -> Option<&'static str> {
+    super::builtin_parent(local)
+}
+
+pub fn type_derivation_ok(de: &TypedElement, be: &TypedElement, types: &Types) -> Mark {
+    mark_of(super::types::type_derivation_ok(de, be, types))
 }

@@ -58,10 +58,16 @@ impl Types {
     }
 }
 
+/// No chain has a simple type, but the original asks.
 pub enum TypeDef {
-    /// No chain has one, but the original asks.
-    Simple(()),
+    Simple(SimpleType),
     Complex(ComplexType),
+}
+
+pub struct SimpleType {
+    pub base_type: Option<String>,
+    /// Those of a union.
+    pub member_types: Vec<String>,
 }
 
 pub struct ComplexType {
@@ -75,4 +81,13 @@ pub struct ComplexType {
 #[derive(Debug, Clone, Copy, PartialEq, Eq)]
 pub enum DerivationMethod {
     Extension,
+}
+
+/// An element declaration with what the comparison of two types reads. It stands
+/// apart from `ElementDef`, so that a marking does not carry it.
+pub struct TypedElement {
+    pub name: String,
+    pub type_ref: Option<String>,
+    /// An anonymous type.
+    pub inline_type: Option<TypeDef>,
 }

@@ -1,10 +1,11 @@
 //! Documents 01 and 02 read a second time, for what the original Rust does not
-//! have: the refusals, and total ranges that do not fit. It takes nothing from
-//! the oracle or from the proved library, and from `common` the layouts and the
-//! numbers of answers only.
+//! have: the refusals, total ranges that do not fit, and sheets filled from
+//! types. It takes nothing from the oracle or from the proved library, and from
+//! `common` the layouts and the numbers of answers only.
 
 mod big;
 pub mod chain;
 pub mod sheet;
 pub mod total;
 pub mod tree;
+pub mod types;

@@ -2,8 +2,8 @@
 //! the sheet says of the leaves in them, and the bytes.
 
 use common::answers::text;
-use common::sheet::{Bodies, CONTENTS, LEAF_BYTES, Leaf, Sheet};
-use common::tree::{Kind, RECORD, Tree};
+use common::sheet::{Leaf, Sheet, hex};
+use common::tree::{Kind, Tree};
 use second::sheet::first_refusal;
 
 use crate::check::Difference;
@@ -88,27 +88,4 @@ fn verdicts(sheet: &Sheet) -> String {
         }
     }
     told.join(", ")
-}
-
-/// Contents, leaves, rows of the tables and records, each by itself; where the
-/// contents are refused, all bytes in one row.
-fn hex(bytes: &[u8]) -> String {
-    let digits = |part: &[u8]| part.iter().map(|byte| format!("{byte:02x}")).collect::<String>();
-    if first_refusal(bytes).is_some_and(|refusal| refusal.number == 1) {
-        return digits(bytes);
-    }
-    let bodies = Bodies::split(bytes);
-    let n = bodies.leaves.len() / LEAF_BYTES;
-    let parts = [
-        (&bodies.leaves, LEAF_BYTES),
-        (&bodies.first, n),
-        (&bodies.second, n),
-        (&bodies.derived, RECORD),
-        (&bodies.base, RECORD),
-    ];
-    let mut told = vec![digits(&bytes[..CONTENTS])];
-    for (body, length) in parts {
-        told.extend(body.chunks(length).map(digits));
-    }
-    told.join(" ")
 }

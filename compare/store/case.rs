@@ -11,10 +11,12 @@ pub enum Operation {
     Tidy = 5,
     Item = 6,
     EffectiveParticle = 7,
+    TypeDerivationOk = 8,
+    FillTypes = 9,
 }
 
 impl Operation {
-    pub const EVERY: [Operation; 7] = [
+    pub const EVERY: [Operation; 9] = [
         Operation::Mark,
         Operation::TotalMin,
         Operation::TotalMax,
@@ -22,6 +24,8 @@ impl Operation {
         Operation::Tidy,
         Operation::Item,
         Operation::EffectiveParticle,
+        Operation::TypeDerivationOk,
+        Operation::FillTypes,
     ];
 
     /// Those that ask an entry for one tree.
@@ -42,6 +46,8 @@ impl Operation {
             Operation::Tidy => "tidy",
             Operation::Item => "item",
             Operation::EffectiveParticle => "effective particle",
+            Operation::TypeDerivationOk => "type derivation ok",
+            Operation::FillTypes => "fill types",
         }
     }
 }
@@ -49,11 +55,12 @@ impl Operation {
 #[derive(Debug, Clone, PartialEq, Eq, Hash)]
 pub struct Case {
     pub operation: Operation,
-    /// The item that is asked for, 0 elsewhere.
+    /// The item that is asked for; or two types' numbers, the derived one's in the
+    /// low byte, the base's in the high one; 0 elsewhere.
     pub k: u16,
-    /// The sheet, tree or chain.
+    /// The sheet, tree, chain or types; empty for two types' numbers.
     pub input: Vec<u8>,
-    /// The lent buffer, empty where the operation takes none.
+    /// The lent buffer or sheet, empty where the operation takes none.
     pub before: Vec<u8>,
     /// As long as `before`.
     pub after: Vec<u8>,

@@ -1,9 +1,10 @@
 //! The words that tell stored answers of one kind from those of another.
 
-use common::answers::{self, BEYOND, REFUSED};
+use common::answers::{self, BEYOND, REFUSED, TYPE_NUMBER};
 use common::chain;
-use common::sheet::Sheet;
+use common::sheet::{LEAVES, Sheet};
 use common::tree::{Kind, Tree};
+use expected::types::{CAUSES, cause};
 use oracle::bridge::{self, Leaves};
 use oracle::doors;
 use oracle::reasons::Mark;
@@ -31,6 +32,8 @@ pub fn of(case: &Case) -> String {
         },
         Operation::Item => item(case).into(),
         Operation::EffectiveParticle => joined(case),
+        Operation::TypeDerivationOk => answers::type_text(case.answer as u32),
+        Operation::FillTypes => filled(case),
     }
 }
 
@@ -72,6 +75,26 @@ fn joined(case: &Case) -> String {
             2 => "two trees".into(),
             _ => "more trees".into(),
         },
+    }
+}
+
+/// What a filling writes, or why it is refused.
+fn filled(case: &Case) -> String {
+    const TYPES: u32 = REFUSED + TYPE_NUMBER;
+    let written = case.after.iter().zip(&case.before).filter(|(after, before)| after != before);
+    let written: Vec<u8> = written.map(|(after, _)| *after).collect();
+    match case.answer as u32 {
+        0 if written.is_empty() => "filled, none changed".into(),
+        0 => match (written.contains(&0), written.iter().any(|verdict| *verdict != 0)) {
+            (true, false) => "filled, ok".into(),
+            (false, _) => "filled, 148".into(),
+            _ => "filled, ok and 148".into(),
+        },
+        TYPES => {
+            let cause = cause(case.before[LEAVES].into(), case.input.len());
+            format!("{}, {}", answers::fill_text(TYPES), CAUSES[cause])
+        }
+        answer => answers::fill_text(answer),
     }
 }
 

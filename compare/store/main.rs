@@ -10,6 +10,7 @@ mod kind;
 mod shares;
 mod sheets;
 mod trees;
+mod types;
 
 use case::Operation;
 use shares::Stored;
@@ -24,6 +25,7 @@ fn main() {
     sheets::store(&mut stored, seed);
     trees::store(&mut stored, seed);
     chains::store(&mut stored, seed);
+    types::store(&mut stored, seed);
     let mut bytes = Vec::new();
     for case in &stored.cases {
         case.write(&mut bytes);
@@ -32,10 +34,14 @@ fn main() {
     write(ANSWERS, &bytes);
     write(PRINTED, format!("{count} agreed, 0 differ\n").as_bytes());
     report(&stored);
-    let (sheets, chains, calls, trees) = stored.inputs();
+    let (calls, trees) = stored.of_trees();
     println!(
-        "{sheets} sheets to mark, {calls} calls of the entries for one tree over {trees} trees, \
-         {chains} chains to join"
+        "{} sheets to mark, {calls} calls of the entries for one tree over {trees} trees, \
+         {} chains to join, {} pairs of types, {} sheets to fill",
+        stored.asked(Operation::Mark),
+        stored.asked(Operation::EffectiveParticle),
+        stored.asked(Operation::TypeDerivationOk),
+        stored.asked(Operation::FillTypes),
     );
     println!("wrote {count} answers, {} bytes, to {ANSWERS}", bytes.len());
 }

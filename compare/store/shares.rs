@@ -25,6 +25,8 @@ pub enum Round {
     Chains,
     DamagedChains,
     UnlikeSheets,
+    Fillings,
+    DamagedFillings,
 }
 
 impl Round {
@@ -59,15 +61,21 @@ impl Stored {
         counts
     }
 
-    /// How many sheets are marked, how many chains are joined, how many cases
-    /// ask an entry for one tree, and over how many trees these are.
-    pub fn inputs(&self) -> (usize, usize, usize, usize) {
-        let of = |operation| self.cases.iter().filter(move |case| case.operation == operation);
-        let sheets = of(Operation::Mark).count();
-        let chains = of(Operation::EffectiveParticle).count();
-        let others: Vec<&Case> = Operation::OF_TREE.into_iter().flat_map(of).collect();
-        let trees: HashSet<&[u8]> = others.iter().map(|case| &case.input[..]).collect();
-        (sheets, chains, others.len(), trees.len())
+    fn of(&self, operation: Operation) -> impl Iterator<Item = &Case> {
+        self.cases.iter().filter(move |case| case.operation == operation)
+    }
+
+    /// How many cases ask this entry.
+    pub fn asked(&self, operation: Operation) -> usize {
+        self.of(operation).count()
+    }
+
+    /// How many cases ask an entry for one tree, and over how many trees these
+    /// are.
+    pub fn of_trees(&self) -> (usize, usize) {
+        let cases = || Operation::OF_TREE.into_iter().flat_map(|operation| self.of(operation));
+        let trees: HashSet<&[u8]> = cases().map(|case| &case.input[..]).collect();
+        (cases().count(), trees.len())
     }
 
     /// Draws so many times, and stores at most so many cases of each fine kind.
