@@ -2,15 +2,16 @@
  * marker.h: mark exam sheets in process, from C99 or C++11. Link with
  * libexports.a, which `rt staticlib exports` writes to target/staticlib. The
  * archive is for x86-64 Linux. link/README.md has an example. words.h, which
- * this header includes, has the numbers of reasons and refusals and their words;
- * sheet.h writes a sheet, a tree or a chain into a buffer.
+ * this header includes, has the numbers of reasons and refusals and their words,
+ * and types.h those of types and their names; sheet.h writes a sheet, a tree or a
+ * chain into a buffer.
  *
  * What a function promises is what its contract in crates/exports/src/lib.rt
  * promises, over the numbers of crates/exports/specs/Numbers.antt. The
  * contracts ask nothing of the bytes: every byte string is an input, and a bad
  * one is refused by number. 'Document 01' is the specification of sheets,
  * trees, marks and refusals, as document 02 changes it; document 02 is also
- * that of chains. docs/KEY.md lists their rules.
+ * that of chains and of type verdicts. docs/KEY.md lists their rules.
  *
  * A SLICE is a pointer and, right after it, a length in bytes. The proofs
  * suppose of each slice what its type says, and the caller must see to it:
@@ -22,9 +23,10 @@
  * - Where the length is 0 nothing is read or written, and the pointer may be
  *   null or dangling.
  * - Any address will do: bytes have no alignment.
- * - `out` shares no byte with `tree` or `chain`.
+ * - `out` shares no byte with `tree` or `chain`, and the `sheet` of
+ *   marker_fill_types none with `types`.
  * - Until the call returns, nothing else (a thread, a signal handler) writes
- *   the bytes of a slice, or reads those of `out`.
+ *   the bytes of a slice, or reads those at a `uint8_t *`.
  *
  * A call that breaks one of these has no promise at all, as in C. In return the
  * bytes of a `const uint8_t *` come back unchanged, no byte outside the slices
@@ -86,6 +88,9 @@
  *   record count of each level  1        2L        0 absent, 1 to 1000
  *   trees that are present      1+2L     16 for each record
  *
+ *   types                       at byte  bytes     values
+ *   the type of leaf number l   l        1         a number of types.h; wildcard: any
+ *
  * A tree is its records in preorder, a group before its items: 1 to 1000 of
  * them, the root at depth 1, depth at most 12. An all-group's items are elements.
  */
@@ -95,6 +100,7 @@
 #include <stddef.h>
 #include <stdint.h>
 
+#include "types.h"
 #include "words.h"
 
 #ifdef __cplusplus
@@ -120,6 +126,13 @@ extern "C" {
 #define MARKER_PASSES UINT32_C(0)
 #define MARKER_UNDECIDED UINT32_C(1)
 #define MARKER_REFUSED UINT32_C(1000)  /* added to a refusal's number */
+
+/* What marker_type_derivation_ok answers besides a refusal: a verdict. */
+#define MARKER_DERIVATION_OK UINT32_C(0)
+#define MARKER_NOT_DERIVED UINT32_C(148)  /* a reason that the paper sets */
+
+/* What marker_fill_types answers besides a refusal. */
+#define MARKER_FILLED UINT32_C(0)
 
 /* What marker_emptiable answers besides a refusal. */
 #define MARKER_NOT_EMPTIABLE UINT32_C(0)
@@ -225,7 +238,38 @@ uint64_t marker_effective_particle(const uint8_t *chain, size_t chain_len, uint8
  */
 size_t marker_item(const uint8_t *tree, size_t tree_len, size_t k, uint8_t *out, size_t out_len);
 
-/* The refusal's number in what marker_mark returned; 0 where there is none. */
+/*
+ * The verdict for two types of the built-in list, whose numbers are in types.h.
+ *
+ * Returns MARKER_DERIVATION_OK where `base` is MARKER_TYPE_ANY_TYPE or
+ * MARKER_TYPE_ANY_SIMPLE_TYPE, or the derived type or one of its ancestors, and
+ * MARKER_NOT_DERIVED where it is none of these. Or MARKER_REFUSED + 17 where the
+ * list does not have one of the two numbers.
+ */
+uint32_t marker_type_derivation_ok(uint32_t derived, uint32_t base);
+
+/*
+ * Fills in the second table of a sheet from the types of its elements.
+ *
+ * `types` has a type number for each leaf, from leaf number 0 on. A wildcard's
+ * is not read: it may be any byte.
+ *
+ * Returns MARKER_FILLED. Each byte of the second table that was 1, undecided,
+ * and whose row and column are both elements now has the verdict that
+ * marker_type_derivation_ok answers for the row's type as derived and the
+ * column's as base. Every other byte of `sheet` keeps its value. A filling done
+ * twice is the filling done once.
+ *
+ * Or returns MARKER_REFUSED + N where it is refused with N, and every byte of
+ * `sheet` keeps its value: 1, 3 to 14 for the sheet, as in marker_mark, then 17
+ * where types_len is not the sheet's leaf count, or the list does not have an
+ * element's number, whether or not a verdict needs it.
+ */
+uint32_t marker_fill_types(uint8_t *sheet, size_t sheet_len, const uint8_t *types,
+                           size_t types_len);
+
+/* The refusal's number in what marker_mark, marker_type_derivation_ok or
+ * marker_fill_types returned; 0 where there is none. */
 static inline uint32_t marker_mark_refusal(uint32_t mark)
 {
     return mark > MARKER_REFUSED ? mark - MARKER_REFUSED : 0;

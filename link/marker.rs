@@ -8,8 +8,8 @@
 //! promise; link/marker.h words them one by one and says what holds of threads,
 //! stack and time. What a caller in C must see to, Rust's types see to here.
 //! 'Document 01' is the specification of sheets, trees, marks and refusals, as
-//! document 02 changes it; document 02 is also that of chains. sheet.rs writes
-//! sheets, trees and chains.
+//! document 02 changes it; document 02 is also that of chains and of type
+//! verdicts. sheet.rs writes sheets, trees and chains; types.rs has the types.
 
 // A program may use a part of it.
 #![allow(dead_code)]
@@ -37,6 +37,13 @@ extern "C" {
         out: *mut u8,
         out_len: usize,
     ) -> usize;
+    fn marker_type_derivation_ok(derived: u32, base: u32) -> u32;
+    fn marker_fill_types(
+        sheet: *mut u8,
+        sheet_len: usize,
+        types: *const u8,
+        types_len: usize,
+    ) -> u32;
 }
 
 /// The length of a tree's record in bytes.
@@ -67,7 +74,7 @@ pub const MOST_LEVELS: usize = 17;
 /// It is counted and tested (`link/stack`, `link/test_stack.c`), not proved.
 pub const MOST_STACK: usize = 57344;
 
-// Added to the number of a sheet's refusal.
+// Added to the number of a sheet's or of types' refusal.
 const REFUSED: u32 = 1000;
 
 // 2^32: an unbounded maximum; and added to the number of a tree's or chain's
@@ -175,8 +182,8 @@ numbers! {
 }
 
 numbers! {
-    /// Why a sheet, a tree or a chain is refused: 1 to 16. A tree alone, or of a
-    /// chain, is refused as a derived tree is. It displays as the words of
+    /// Why a sheet, a tree, a chain or types are refused: 1 to 17. A tree alone, or
+    /// of a chain, is refused as a derived tree is. It displays as the words of
     /// docs/KEY.md.
     Refusal, "no refusal of docs/KEY.md":
     1 CONTENTS
@@ -208,6 +215,9 @@ numbers! {
     15 CHAIN
         "the caller's mistake: chain of 0 or over 17 levels, or of a length unlike its counts"
     16 LIMIT "the examiner's mistake: joined tree over 1000 records or depth 12"
+    17 TYPE_NUMBER
+        "the examiner's mistake: a type number that the list does not have, or not one for each \
+         leaf"
 }
 
 // So that `?` hands a refusal on. A reason is an answer, not an error.
@@ -246,11 +256,11 @@ pub enum Maximum {
 /// refusal in document 01's order.
 pub fn mark(sheet: &[u8]) -> Mark {
     // SAFETY: a `&[u8]` is what the header asks of a slice.
-    match unsafe { marker_mark(sheet.as_ptr(), sheet.len()) } {
-        0 => Mark::Passes,
-        1 => Mark::Undecided,
-        number if number > REFUSED => Mark::Refused(Refusal(number - REFUSED)),
-        number => Mark::Fails(Reason(number)),
+    match unless_added(unsafe { marker_mark(sheet.as_ptr(), sheet.len()) }) {
+        Ok(0) => Mark::Passes,
+        Ok(1) => Mark::Undecided,
+        Ok(number) => Mark::Fails(Reason(number)),
+        Err(refusal) => Mark::Refused(refusal),
     }
 }
 
@@ -343,10 +353,45 @@ pub fn item(tree: &[u8], k: usize) -> Option<&[u8]> {
     }
 }
 
+/// The verdict for two types of the built-in list, by their numbers: whether the
+/// base is `anyType` or `anySimpleType`, or the derived type or one of its
+/// ancestors. `false` is the verdict 148. Refused with 17 where the list does not
+/// have one of the numbers.
+pub fn type_derivation_ok(derived: impl Into<u32>, base: impl Into<u32>) -> Result<bool, Refusal> {
+    let (derived, base) = (derived.into(), base.into());
+    // SAFETY: the header asks nothing of a number.
+    let verdict = unsafe { marker_type_derivation_ok(derived, base) };
+    Ok(unless_added(verdict)? == 0)
+}
+
+/// Fills in the second table of a sheet from the types of its elements: each
+/// verdict that is undecided, of an element against an element, becomes that of
+/// `type_derivation_ok`, the row's type as derived. Every other byte of `sheet`
+/// keeps its value; a filling done twice is the filling done once. `types` has a
+/// number for each leaf; a wildcard's is not read.
+///
+/// Refused with 1, 3 to 14 as in `mark`, then with 17 where `types` is not as long
+/// as the sheet has leaves, or the list does not have an element's number, and then
+/// every byte of `sheet` keeps its value.
+pub fn fill_types(sheet: &mut [u8], types: &[u8]) -> Result<(), Refusal> {
+    let (lent, len) = (sheet.as_mut_ptr(), sheet.len());
+    // SAFETY: as in `tidy`.
+    let answer = unsafe { marker_fill_types(lent, len, types.as_ptr(), types.len()) };
+    unless_added(answer).map(|_| ())
+}
+
+// The number, unless it stands for a sheet's or types' refusal.
+fn unless_added(number: u32) -> Result<u32, Refusal> {
+    match number.checked_sub(REFUSED) {
+        Some(refusal @ 1..) => Err(Refusal(refusal)),
+        _ => Ok(number),
+    }
+}
+
 // The number, unless it stands for a tree's or chain's refusal.
 fn unless_refused(number: u64) -> Result<u64, Refusal> {
     match number.checked_sub(BEYOND) {
-        // Refusals are 1 to 16.
+        // Refusals are 1 to 17.
         Some(refusal @ 1..) if number != TOO_LARGE => Err(Refusal(refusal as u32)),
         _ => Ok(number),
     }

@@ -347,6 +347,8 @@ int main(void)
     test_sheet();
     test_faults();
     test_drawn();
+    test_types();
+    test_filling();
     printf("%lu checks, %lu differences\n", checks, differences);
     return differences != 0;
 }

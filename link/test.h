@@ -66,6 +66,9 @@ uint8_t *lend(void);
 /* So many bytes stand at its start, and every other byte is as before. */
 void check_lent(const char *what, const uint8_t *bytes, size_t count);
 
+/* The verdict for two types, by the outline of test_types.c. */
+uint32_t by_outline(uint32_t derived, uint32_t base);
+
 /* The tests of the other files. */
 void test_chains(void);
 void test_layout(void);
@@ -74,5 +77,7 @@ void test_words(void);
 void test_sheet(void);
 void test_faults(void);
 void test_drawn(void);
+void test_types(void);
+void test_filling(void);
 
 #endif

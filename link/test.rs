@@ -6,6 +6,8 @@ mod sheet;
 mod test_chains;
 mod test_layout;
 mod test_sheet;
+mod test_types;
+mod types;
 
 use marker::Maximum::{self, Bounded, Unbounded};
 use marker::Minimum::{self, Exact};

@@ -16,13 +16,14 @@
 /* How many items a root may have, and a group below all the others. */
 enum { WIDTH = MOST_RECORDS - 1, WIDTH_BELOW = MOST_RECORDS - (MOST_DEPTH - 1) };
 enum { WILDCARD_AT = CONTENTS_SIZE + LEAF_SIZE, DERIVED_AT = TREES_AT(2) };
+enum { SECOND_AT = DERIVED_AT - 2 * 2 };
 enum { AN_ELEMENT = 0, A_WILDCARD = 1 };
 
 static uint8_t sheet[DERIVED_AT + 2 * MARKER_MOST_TREE];
 static uint8_t chain[MARKER_MOST_CHAIN];
 static size_t length, derived_length, chain_length;
 static struct {
-    uint64_t min, max, emptiable, records, joined, item, mark;
+    uint64_t min, max, emptiable, records, joined, item, verdict, filled, mark;
 } got;
 static ucontext_t test, small;
 
@@ -55,10 +56,12 @@ static uint8_t *wide_below(uint8_t *at, int kind)
     return wide(at, kind, WIDTH_BELOW, 2);
 }
 
-/* What is done on the small stack: each entry with the derived tree, and the mark. */
+/* What is done on the small stack: each entry with the derived tree, with types, and
+ * the mark. */
 static void calls(void)
 {
     static uint8_t out[MARKER_MOST_TREE];
+    static const uint8_t types[2] = {MARKER_TYPE_UNSIGNED_BYTE, MARKER_NO_TYPE};
     const uint8_t *derived = sheet + DERIVED_AT;
     got.min = marker_total_min(derived, derived_length);
     got.max = marker_total_max(derived, derived_length);
@@ -66,6 +69,8 @@ static void calls(void)
     got.records = marker_tidy(derived, derived_length, out, sizeof out);
     got.joined = marker_effective_particle(chain, chain_length, out, sizeof out);
     got.item = marker_item(derived, derived_length, 0, out, sizeof out);
+    got.verdict = marker_type_derivation_ok(types[0], MARKER_TYPE_DECIMAL);
+    got.filled = marker_fill_types(sheet, length, types, sizeof types);
     got.mark = marker_mark(sheet, length);
 }
 
@@ -88,8 +93,9 @@ static int on_small_stack(void)
     return done;
 }
 
-/* Two leaves, an element and a wildcard; the derived tree ends at `base`, the base tree at `end`.
- * The derived root has one group or many elements. */
+/* Two leaves, an element, whose verdict against itself is to be filled in, and a
+ * wildcard; the derived tree ends at `base`, the base tree at `end`. The derived root
+ * has one group or many elements. */
 static void check_passes(const char *what, const uint8_t *base, const uint8_t *end, uint64_t max)
 {
     const uint8_t *derived = sheet + DERIVED_AT;
@@ -98,6 +104,7 @@ static void check_passes(const char *what, const uint8_t *base, const uint8_t *e
     memset(sheet, 0, DERIVED_AT);
     length = contents(sheet, 2, (size_t)records[0], (size_t)(end - base) / MARKER_RECORD);
     sheet[WILDCARD_AT] = 1;
+    sheet[SECOND_AT] = MARKER_UNDECIDED;
     uint8_t *tree = levels(chain, 1, records);
     memcpy(tree, derived, derived_length);
     chain_length = (size_t)(tree - chain) + derived_length;
@@ -109,6 +116,8 @@ static void check_passes(const char *what, const uint8_t *base, const uint8_t *e
     check(what, (uint64_t)records[0], got.records);
     check(what, (uint64_t)records[0], got.joined);
     check(what, derived[COUNT] == 1 ? derived_length - MARKER_RECORD : MARKER_RECORD, got.item);
+    check(what, MARKER_DERIVATION_OK, got.verdict);
+    check(what, MARKER_FILLED, got.filled);
     check(what, MARKER_PASSES, got.mark);
 }
 

@@ -37,10 +37,10 @@ static void test_refusals(void)
 {
     const char *none = marker_refusal_words(0);
     check_words("no refusal of docs/KEY.md", none);
-    for (uint32_t number = 1; number <= MARKER_REFUSAL_LIMIT; number++) {
+    for (uint32_t number = 1; number <= MARKER_REFUSAL_TYPE_NUMBER; number++) {
         check("a refusal's words", 1, (uint64_t)(strcmp(marker_refusal_words(number), none) != 0));
     }
-    check_words(none, marker_refusal_words(MARKER_REFUSAL_LIMIT + 1));
+    check_words(none, marker_refusal_words(MARKER_REFUSAL_TYPE_NUMBER + 1));
     check_words(none, marker_refusal_words(UINT32_MAX));
     uint32_t refusal = marker_mark_refusal(marker_mark(NULL, 0));
     check_words("the caller's mistake: sheet under 8 bytes, a contents field out of its range, or "
