@@ -3,11 +3,14 @@ differ, the command ends and says so."""
 
 import chain
 import describer
+import filler
+import filling
+import layout
 import marker
 import treewriters
 from files import UNUSABLE, WRONG, Stop
 from notation import tree_text
-from proved import ITEM, JOIN, TIDY, NoAnswer
+from proved import FILL, ITEM, JOIN, TIDY, NoAnswer
 from refusals import Refused
 from tidying import emptiable, tidy
 from total import total
@@ -35,20 +38,42 @@ def item(paper, tree, k):
 
 def same_tree(paper, what, program, here, ask, without="none"):
     """A program's tree, which must be the one here."""
-    def words(tree):
+    def words(tree, _):
         return without if tree is None else tree_text(tree, paper.names)
 
-    def differ(there):
-        return Stop(WRONG, f"the {what} is {words(here)} by this aid, {there} by {program.called}")
+    return same(what, program, here, ask, words)
+
+
+def filled(sheet, types):
+    """The sheet with its second table filled, byte for byte as here."""
+    here = filling.fill(sheet, types)
+    same("filled sheet", FILL, layout.encode(here), lambda: filler.fill(sheet, types), sheet_words)
+    return here
+
+
+def sheet_words(data, other):
+    """What of a sheet's bytes is not as in another's."""
+    if other is None or len(data) != len(other):
+        return f"of {len(data)} bytes"
+    at = next(at for at, byte in enumerate(data) if byte != other[at])
+    return f"{data[at]} at byte {at}"
+
+
+def same(what, program, here, ask, words):
+    """A program's answer, which must be the one here; ``words`` tells an answer
+    from another, which is None where the program refuses."""
+    def differ(there, said):
+        found = f"{words(here, there)} by this aid, {said} by {program.called}"
+        return Stop(WRONG, f"the {what} is {found}")
 
     try:
         there = ask()
     except NoAnswer as none:
         raise Stop(UNUSABLE, f"no {what}: {none}") from none
     except Refused as refused:
-        raise differ(f"refused {refused.number}") from refused
+        raise differ(None, f"refused {refused.number}") from refused
     if there != here:
-        raise differ(words(there))
+        raise differ(there, words(there, here))
     return there
 
 

@@ -52,7 +52,7 @@ def arguments():
 def write(options):
     text = text_of(options.file)
     try:
-        sheet = draft.parse(text, checked.joined)
+        sheet = draft.parse(text, checked.joined, checked.filled)
     except PaperError as error:
         raise Stop(WRONG, error.report(shown(options.file), text)) from error
     put_bytes(layout.encode(sheet), options.output, "sheet")

@@ -1,24 +1,30 @@
 """The sheet that a paper's text describes: document 01's defaults (equal
-letters ok, others 140), changed by the statements."""
+letters ok, others 140), changed by the statements, and by types filled."""
 
 from typing import FrozenSet, List, NamedTuple, Optional, Tuple
 
 import chain
+import filling
 from faults import PaperError, Token
-from hints import SEVERAL, VERDICT, VERDICT_WORDS
+from hints import SEVERAL, VERDICT, VERDICT_WORDS, type_missing
 from judgement import Subject
 from notation import LeafNames, TreeReader, leaf_kind
 from scanner import Scanner
-from sheet import Kind, Leaf, Sheet, Tree, usual_leaf, usual_table
-from statements import LeafList, NameNumber, ProcessContents, read_statement, scanned
+from sheet import UNDECIDED, Kind, Leaf, Sheet, Tree, usual_leaf, usual_table
+from statements import (
+    ElementType, LeafList, NameNumber, ProcessContents, Verdicts, read_statement, scanned,
+)
+from typenames import ANY_TYPE
 
 # The leaf of a paper whose trees have none: a sheet has at least one.
 ONLY_LEAF = "a"
 TWO_TREES = "two trees, DERIVED | BASE"
+TABLES = ("first", "second")
 
 
 class Paper(NamedTuple):
-    """What a text says, before the levels in the base place are joined."""
+    """What a text says, before the levels in the base place are joined and types
+    decide."""
 
     # The leaves' letters and numbers, in the order of the leaf numbers.
     names: List[str]
@@ -30,19 +36,27 @@ class Paper(NamedTuple):
     chain: chain.Chain
     # The verdicts that a line sets: the table, the derived and the base leaf.
     is_set: FrozenSet[Tuple[str, int, int]]
+    # A type number for each leaf, 0 where none is read; None where no line sets a
+    # type.
+    types: Optional[List[int]]
 
-    def subject(self, join):
-        """What is marked: its base joined so where it is a chain."""
+    def subject(self, join, fill=filling.fill):
+        """What is marked: its base joined so where it is a chain, and its second
+        table filled so where there are types."""
         levels = self.chain.levels
         base = levels[0] if len(levels) == 1 else join(self)
         sheet = Sheet(self.leaves, self.first, self.second, self.derived, base)
-        return Subject(sheet, self.names, self.is_set, len(levels) > 1)
+        subject = Subject(sheet, self.names, self.is_set, len(levels) > 1)
+        if self.types is None:
+            return subject
+        return subject._replace(sheet=fill(sheet, self.types), types=self.types,
+                                filled=frozenset(filling.undecided_elements(sheet)))
 
 
-def parse(text, join=lambda paper: chain.join(paper.chain.levels)):
-    """The sheet, its base joined so where it is a chain; raises PaperError at
-    the first fault."""
-    return read(text).subject(join).sheet
+def parse(text, join=lambda paper: chain.join(paper.chain.levels), fill=filling.fill):
+    """The sheet, joined so where its base is a chain, filled so where it has types;
+    raises PaperError at the first fault."""
+    return read(text).subject(join, fill).sheet
 
 
 def read(text, alone=False):
@@ -60,11 +74,12 @@ def read(text, alone=False):
     draft = Draft(leaf_order(statements, names))
     for statement in statements:
         draft.apply(statement)
+    types = draft.left_to_types(statements)
     order = [draft.numbers[name] for name in names.numbers]
     base = base._replace(levels=[renumbered(tree, order) for tree in base.levels])
-    is_set = frozenset(key for key in draft.set_by if isinstance(key, tuple))
+    is_set = frozenset(key for key in draft.set_by if key[0] in TABLES)
     return Paper(list(draft.numbers), draft.leaves, draft.first, draft.second,
-                 renumbered(derived, order), base, is_set)
+                 renumbered(derived, order), base, is_set, types)
 
 
 def statement_of(scanner):
@@ -132,6 +147,8 @@ class Draft:
         self.leaves = [usual_leaf(leaf_kind(name), number) for number, name in enumerate(order)]
         self.first = usual_table(len(order))
         self.second = usual_table(len(order))
+        # By the numbers of the elements that have one.
+        self.types = {}
         self.set_by = {}
 
     def apply(self, statement):
@@ -141,6 +158,9 @@ class Draft:
             for token in statement.leaves:
                 number = self.leaf(token, Kind.ELEMENT, "name number")
                 self.leaves[number] = self.leaves[number]._replace(name=statement.number)
+        elif isinstance(statement, ElementType):
+            for token in statement.leaves:
+                self.types[self.leaf(token, Kind.ELEMENT, "type")] = statement.number
         elif isinstance(statement, ProcessContents):
             for token in statement.leaves:
                 number = self.leaf(token, Kind.WILDCARD, "setting of process contents")
@@ -154,7 +174,7 @@ class Draft:
         if self.leaves[number].kind != kind:
             wanted = "an element" if kind == Kind.ELEMENT else "a wildcard"
             raise PaperError(token, f"{wanted} for a {what}")
-        self.claim(token, number, f"one {what} for '{token.text}'")
+        self.claim(token, (what, number), f"one {what} for '{token.text}'")
         return number
 
     def number(self, token):
@@ -173,6 +193,32 @@ class Draft:
                         once = f"one verdict for {pair} in the {which} table"
                         self.claim(derived, (which, row, column), once)
                         table[row][column] = verdict
+
+    def left_to_types(self, statements):
+        """A type number for each leaf, None where no line sets one. Two elements
+        that have types are undecided where no line sets their verdict in the second
+        table; and whichever are undecided there must have types."""
+        if not self.types:
+            return None
+        for row in self.types:
+            for column in self.types:
+                if ("second", row, column) not in self.set_by:
+                    self.second[row][column] = UNDECIDED
+        for statement in statements:
+            if isinstance(statement, Verdicts) and statement.second == UNDECIDED:
+                self.check_typed(statement)
+        return [self.types.get(number, ANY_TYPE) for number in range(len(self.leaves))]
+
+    def check_typed(self, statement):
+        """Faults an element without a type in a pair of elements."""
+        derived, base = (
+            [token for token in tokens if leaf_kind(token.text) == Kind.ELEMENT]
+            for tokens in (statement.derived, statement.base))
+        for token in derived + base if derived and base else ():
+            if self.number(token) not in self.types:
+                raise PaperError(
+                    token, f"a type for '{token.text}' too: types decide every undecided pair of "
+                    "elements in the second table", "none", type_missing(token.text))
 
     def claim(self, token, key, once):
         """Notes that the token's line sets something, which may be set once."""

@@ -1,6 +1,9 @@
 """Hints for mistakes in a paper that are easily made."""
 
+from typenames import MOST_TYPE, NUMBERS
+
 A_LEAF = "a leaf (a letter such as a, w or a1)"
+A_TYPE = f"a built-in type, by its name or by its number from 0 to {MOST_TYPE}"
 END = "the end of the line"
 
 PAIR_FIRST = "a group's pair stands before its items, as in S(0,1)[a,b]"
@@ -25,6 +28,14 @@ HOW_OFTEN = "how often is said by a pair of minimum and maximum, as in a(0,1), a
 GROUP_WORDS = {"sequence": "S", "seq": "S", "choice": "C", "all": "A"}
 VERDICT_WORDS = ("ok", "undecided", "first", "second")
 COMMAS = "commas part items, as in S[a,b]"
+TYPE_PREFIXES = ("xs", "xsd")
+NO_PREFIX = "a type's name stands without a prefix, as in a : type integer"
+OWN_TYPE = (
+    "only the types that XML Schema has built in stand here; of others a line sets the verdict, as "
+    "a | b : second ok"
+)
+TYPE_FIRST = "a type stands after the word type, as in a : type integer"
+CASELESS = {name.lower(): name for name in NUMBERS}
 # What a sign in place of another stands for, most likely.
 INSTEAD = {";": COMMAS, "*": HOW_OFTEN, "?": HOW_OFTEN}
 
@@ -45,6 +56,11 @@ def hint_at(token, before, wanted):
         return COMMAS
     if wanted[-1] in ("'|'", END):
         return hint_after_trees(token, wanted)
+    if A_TYPE in wanted:
+        return hint_for_type(token)
+    # `Name` is more likely `name` with a capital.
+    if "'type'" in wanted and token.text in NUMBERS and token.text != "Name":
+        return TYPE_FIRST
     return hint_for_leaf(token) if A_LEAF in wanted else INSTEAD.get(token.text)
 
 
@@ -69,4 +85,20 @@ def hint_for_leaf(token):
         return None
     if len(word) == 1 and word.isascii():
         return SMALL_LEAVES
-    return LONG_NAME if word[1:2].isalpha() or not word.isascii() else None
+    return None if word[1:].isdigit() else LONG_NAME
+
+
+def hint_for_type(token):
+    """Where a built-in type is wanted."""
+    word = token.text.lower()
+    if word in TYPE_PREFIXES:
+        return NO_PREFIX
+    if word in CASELESS:
+        return f"capitals and small letters count in a type's name, here {CASELESS[word]}"
+    return OWN_TYPE if word[:1].isalpha() else None
+
+
+def type_missing(name):
+    """Where an element has no type, and needs one."""
+    return (f"give it one, as {name} : type decimal, or {name} : type anyType where the schema has "
+            "none for it")

@@ -5,6 +5,7 @@ program's."""
 
 from typing import List, NamedTuple, Optional
 
+import filling
 from marker import Mark
 from notation import tree_text
 from sheet import OK, UNDECIDED, Kind, Sheet, Tree
@@ -35,6 +36,8 @@ class Outcome(NamedTuple):
     decides: Optional[int] = None
     # The rule by which that step makes it undecided.
     carried: str = ""
+    # The rule by which types give the verdict.
+    by: str = ""
 
 
 class Node(NamedTuple):
@@ -83,6 +86,10 @@ class Subject(NamedTuple):
     is_set: frozenset
     # Whether the base was a chain.
     is_joined: bool = False
+    # A type number for each leaf, and which verdicts of the second table follow
+    # from two of these, as (derived leaf, base leaf).
+    types: List[int] = []
+    filled: frozenset = frozenset()
 
     def text(self, tree, longest=LONGEST):
         text = tree_text(tree, self.names)
@@ -93,9 +100,19 @@ class Subject(NamedTuple):
         table = self.sheet.first if which == "first" else self.sheet.second
         number = table[derived][base]
         word = {OK: "ok", UNDECIDED: "undecided"}.get(number, number)
-        default = "" if (which, derived, base) in self.is_set else ", by default"
         said = f"{self.names[derived]} against {self.names[base]} in the {which} table is {word}"
+        because = self.because(derived, base) if which == "second" else ""
+        if because:
+            return Outcome(mark_of(number), f"{said}: {because}", by="V2")
+        default = "" if (which, derived, base) in self.is_set else ", by default"
         return Outcome(mark_of(number), f"{said}{default}")
+
+    def because(self, derived, base):
+        """Why the types give their verdict in the second table; empty where they
+        give none."""
+        if (derived, base) not in self.filled:
+            return ""
+        return filling.in_words(self.types[derived], self.types[base])
 
 
 def mark_of(verdict):

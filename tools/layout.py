@@ -14,10 +14,12 @@ RECORD = struct.Struct("<BBHB3sII")
 # A chain's number of levels, and the record count of a level.
 CHAIN = struct.Struct("<B")
 LEVEL = struct.Struct("<H")
-# The length of a sheet among many, and the number of an item before its tree, as
-# `marker --many` and `item` read them.
+# The length of a sheet among many, the number of an item before its tree, and how
+# many type numbers stand before a sheet, as `marker --many`, `item` and `fill`
+# read them.
 LENGTH = struct.Struct("<H")
 ITEM = struct.Struct("<H")
+TYPES = struct.Struct("<H")
 
 
 class Contents(NamedTuple):
@@ -132,3 +134,8 @@ def encode_many(sheets):
 def encode_item(k, tree):
     """What `item` reads: the item's number, and the tree."""
     return ITEM.pack(k) + encode_tree(tree)
+
+
+def encode_filling(types, sheet):
+    """What `fill` reads: the number of type numbers, these, and a sheet's bytes."""
+    return TYPES.pack(len(types)) + bytes(types) + sheet

@@ -111,22 +111,33 @@ def results_of(files, explained):
 def read_file(name):
     """The papers of a file, not yet marked, or why they can't be."""
     try:
-        return [read_entry(entry) for entry in entries_of(name)]
+        entries = entries_of(name)
     except Stop as stop:
-        what = NOT_READ if stop.status == UNUSABLE else WRONG_NOTATION
-        entry = Entry(shown(name), Part("", 1, ""), True)
-        words = str(stop).removeprefix(f"{entry.file}: ")
-        return [Result(entry, Mark(what, None), words, status=stop.status, message=str(stop))]
+        return [without_mark(Entry(shown(name), Part("", 1, ""), True), stop)]
+    return [read_entry(entry) for entry in entries]
 
 
 def read_entry(entry):
     try:
-        subject = draft.read(entry.part.text).subject(checked.joined)
+        subject = draft.read(entry.part.text).subject(checked.joined, checked.filled)
     except PaperError as error:
         report = error.report(entry.file, entry.part.text)
         return Result(entry, Mark(WRONG_NOTATION, None), error.in_a_line(), status=WRONG,
                       message=report)
+    except Stop as stop:
+        # A program that is missing leaves the other papers their marks; one that
+        # disagrees leaves nothing to rely on.
+        if stop.status == UNUSABLE:
+            return without_mark(entry, stop)
+        raise Stop(stop.status, f"{entry.label}: {stop}") from stop
     return Result(entry, None, "", subject=subject)
+
+
+def without_mark(entry, stop):
+    """A paper, or a file, that can't be read."""
+    what = NOT_READ if stop.status == UNUSABLE else WRONG_NOTATION
+    words = str(stop).removeprefix(f"{entry.file}: ")
+    return Result(entry, Mark(what, None), words, status=stop.status, message=str(stop))
 
 
 def with_mark(result, given, explained):

@@ -1,13 +1,17 @@
 """Runs the proved programs on bytes."""
 
 import os
+import re
 import subprocess
 from pathlib import Path
 from typing import NamedTuple
 
+from refusals import Refused
+
 ROOT = Path(__file__).resolve().parent.parent
 # The programs' place in a packed folder; the repository has none.
 PACKED = ROOT / "bin"
+REFUSED = re.compile(rb"refused ([0-9]{1,3})\n")
 
 
 class NoAnswer(Exception):
@@ -48,6 +52,22 @@ class Program(NamedTuple):
         except OSError as error:
             raise NoAnswer(f"{self.called} {path} does not run: {error.strerror}") from error
 
+    def written(self, data, without=None):
+        """The run in which it writes bytes, None where it says in these words that
+        there are none; raises Refused where it refuses the data, NoAnswer where it
+        does none of the three."""
+        run = self.run(data)
+        if run.returncode != 0 or bool(run.stdout) == bool(run.stderr):
+            raise self.no_answer(run)
+        if run.stdout:
+            return run
+        refused = REFUSED.fullmatch(run.stderr)
+        if refused:
+            raise Refused(int(refused.group(1)), f"{self.called} refuses it")
+        if run.stderr != without:
+            raise self.no_answer(run)
+        return None
+
     def no_answer(self, run):
         """The fault of a run that answers in no known form."""
         return NoAnswer(
@@ -61,4 +81,5 @@ JOIN = Program("join", "JOIN", "the joining program", "tree")
 DESCRIBE = Program("describe", "DESCRIBE", "the describing program", "description")
 TIDY = Program("tidy", "TIDY", "the tidying program", "tree")
 ITEM = Program("item", "ITEM", "the program for items", "tree")
-PROGRAMS = (MARKER, JOIN, DESCRIBE, TIDY, ITEM)
+FILL = Program("fill", "FILL", "the filling program", "sheet")
+PROGRAMS = (MARKER, JOIN, DESCRIBE, TIDY, ITEM, FILL)

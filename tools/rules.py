@@ -87,7 +87,11 @@ def element_element(judge, derived, base):
         return lambda: judge.subject.verdict(which, derived.leaf, base.leaf)
 
     outcome = first_not_ok(verdict("first"), lambda: pair_outcome(derived, base), verdict("second"))
-    return Outcome(PASSES, "ok in both tables") if outcome.mark == PASSES else outcome
+    if outcome.mark != PASSES:
+        return outcome
+    because = judge.subject.because(derived.leaf, base.leaf)
+    said = f"ok in both tables{': ' if because else ''}{because}"
+    return Outcome(PASSES, said, by=outcome.by)
 
 
 def pair_outcome(derived, base):

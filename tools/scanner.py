@@ -9,9 +9,9 @@ import re
 from faults import PaperError, Token
 from hints import END, hint_at
 
-# A word (a letter with its number, or a keyword), a number, a sign; any other
-# character is a token by itself, which nothing expects.
-TOKEN = re.compile(r"[A-Za-z]+[0-9]*|[0-9]+|\S")
+# A word (a letter with its number, a keyword, or a type's name), a number, a sign;
+# any other character is a token by itself, which nothing expects.
+TOKEN = re.compile(r"[A-Za-z][A-Za-z0-9]*|[0-9]+|\S")
 COMMENT = "#"
 OPENING, CLOSING = "[", "]"
 # Signs between trees: a statement does not end in one, and none begins with one.

@@ -4,6 +4,7 @@
     leaves : a, b, w          every leaf, in the order of the leaf numbers
     a, b : name 7             local name number
     w : lax                   process contents
+    a, b : type integer       built-in type, by name or number
     a | b, c : undecided      verdict in both tables, or first ..., second ...
 
 What they mean for the sheet is the matter of draft.py."""
@@ -12,10 +13,11 @@ import re
 from typing import List, NamedTuple, Optional, Union
 
 from faults import Token
-from hints import A_LEAF
+from hints import A_LEAF, A_TYPE
 from notation import leaf_kind
 from scanner import CLOSING, COMMENT, OPENING, Scanner, as_number
 from sheet import MOST_NAME, OK, PROCESS_CONTENTS, SET_REASONS, UNDECIDED, is_verdict
+from typenames import MOST_TYPE, NUMBERS
 
 VERDICT_WORDS = {"ok": OK, "undecided": UNDECIDED}
 A_REASON = f"a reason from {SET_REASONS[0]} to {SET_REASONS[-1]}"
@@ -45,6 +47,11 @@ class NameNumber(NamedTuple):
     number: int
 
 
+class ElementType(NamedTuple):
+    leaves: List[Token]
+    number: int
+
+
 class ProcessContents(NamedTuple):
     leaves: List[Token]
     process: int
@@ -58,7 +65,7 @@ class Verdicts(NamedTuple):
     second: Optional[int]
 
 
-Statement = Union[LeafList, NameNumber, ProcessContents, Verdicts]
+Statement = Union[LeafList, NameNumber, ElementType, ProcessContents, Verdicts]
 
 
 def scanned(lines):
@@ -114,6 +121,8 @@ def about_leaves(scanner):
     scanner.expect(":")
     if scanner.skip("name"):
         return NameNumber(leaves, scanner.number(MOST_NAME))
+    if scanner.skip("type"):
+        return ElementType(leaves, type_number(scanner))
     for process, word in enumerate(PROCESS_CONTENTS):
         if scanner.skip(word):
             return ProcessContents(leaves, process)
@@ -128,6 +137,17 @@ def read_leaves(scanner):
         leaves.append(scanner.take())
         if not scanner.skip(","):
             return leaves
+
+
+def type_number(scanner):
+    """A built-in type's number, which its name may stand for."""
+    word = scanner.token.text
+    if as_number(word) is not None:
+        return scanner.number(MOST_TYPE)
+    if word not in NUMBERS:
+        scanner.fail(A_TYPE)
+    scanner.take()
+    return NUMBERS[word]
 
 
 def verdicts(scanner):

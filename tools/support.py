@@ -36,11 +36,11 @@ needs_joiner = needs(proved.JOIN)
 needs_describer = needs(proved.DESCRIBE)
 needs_tidier = needs(proved.TIDY)
 needs_items = needs(proved.ITEM)
+needs_filler = needs(proved.FILL)
 
 
 def needs_tree_programs(test):
     return needs_tidier(needs_items(test))
-
 
 
 ROOT = proved.ROOT
@@ -227,10 +227,10 @@ def spaced(rng, line):
 
 
 def run(*words, data=b"", program=None, joiner=None, describer=None, tidier=None, items=None,
-        stdout=subprocess.PIPE):
+        filler=None, stdout=subprocess.PIPE):
     environment = dict(os.environ)
     for variable, path in (("MARKER", program), ("JOIN", joiner), ("DESCRIBE", describer),
-                           ("TIDY", tidier), ("ITEM", items)):
+                           ("TIDY", tidier), ("ITEM", items), ("FILL", filler)):
         if path:
             environment[variable] = str(path)
     return subprocess.run([str(PAPER), *map(str, words)], input=data, stdout=stdout,
@@ -263,6 +263,15 @@ class Command(unittest.TestCase):
         path.chmod(stat.S_IRWXU)
         return path
 
+    def counting(self, proved_one):
+        """A program that does what a proved one does, and a file to which each of
+        its runs adds a line."""
+        path, called = (self.folder / f"{proved_one.name}{end}" for end in ("", ".called"))
+        path.write_text(f'#!/bin/sh\necho >> {called}\n'
+                        f'exec {proved_one.path().resolve()} "$@"\n')
+        path.chmod(stat.S_IRWXU)
+        return path, called
+
 
 class FaultsCase(unittest.TestCase):
     def read(self, text):
@@ -275,3 +284,12 @@ class FaultsCase(unittest.TestCase):
             error = raised.exception
             self.assertEqual(str(error), f"expected {expected}, found {found}")
             self.assertEqual((error.line, error.column), (line, column))
+
+    def check_hint(self, text, words):
+        """The hint has these words; there is none where they are None."""
+        with self.subTest(text=text):
+            with self.assertRaises(PaperError) as raised:
+                self.read(text)
+            hint = raised.exception.hint
+            self.assertEqual(hint is None, words is None, hint)
+            self.assertIn(words or "", hint or "")

@@ -285,6 +285,18 @@ class Marks(Command):
             for use in ("mark", "write"):
                 self.check(run(use, data=text.encode()), 0, run(use, data=joined.stdout).stdout, "")
 
+    def test_programs_that_fail_among_many(self):
+        """A missing one leaves the other papers their marks, one that differs ends
+        the command."""
+        data = b"a | a\n\npaper : Bo\na | a + b\n\nb | b\n"
+        done = run("mark", data=data, joiner=self.folder / "missing")
+        found = done.stdout.decode().splitlines()
+        self.assertEqual((done.returncode, found[-1]), (2, "3 papers: 2 pass, 1 not read"))
+        self.assertIn(":3, Bo: not read: no joined tree: the joining program", found[1])
+        other = self.program(octal(Joining.OTHER))
+        self.check(run("mark", data=data, joiner=other), 1, b"",
+                   "<stdin>:3, Bo: the joined tree is S[a,b] by this aid, S[b,a] by the joining")
+
     def test_the_sample(self):
         sample = SAMPLES / "report.paper"
         joined = run("join", sample)

@@ -27,6 +27,10 @@ class Bytes(unittest.TestCase):
         head = [4, 0, 0, 2, 0, 0, 0, 1, 0]
         self.assertEqual(list(layout.encode_chain(levels)), head + SEQUENCE + B + A_UNBOUNDED)
 
+    def test_types(self):
+        self.assertEqual(list(layout.encode_filling([34, 0, 4], b"sheet")),
+                         [3, 0, 34, 0, 4, *b"sheet"])
+
     def test_counts_of_two_bytes(self):
         tree = layout.encode_tree(row(259))
         self.assertEqual(list(tree[:8]), [2, 0, 2, 1, 0, 0, 0, 0])

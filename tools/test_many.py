@@ -15,10 +15,10 @@ import marker
 from draft import parse
 from papers import split
 from printed import paper_text
-from proved import MARKER
+from proved import MARKER, PROGRAMS
 from support import (
-    ROOT, SAMPLES, Command, largest_sheet, near_sheet, needs_describer, needs_joiner, needs_marker,
-    needs_tree_programs, random_sheet, run,
+    ROOT, SAMPLES, Command, largest_sheet, near_sheet, needs_filler, needs_joiner, needs_marker,
+    random_sheet, run,
 )
 
 PASSES = "passes: the derived tree restricts the base tree"
@@ -207,10 +207,7 @@ class Marking(Command):
         """Seconds, by one call of the marking program."""
         for number in range(1000):
             self.put(**{f"p{number}": paper_text(near_sheet(number))})
-        called = self.folder / "called"
-        program = self.folder / "program"
-        program.write_text(f'#!/bin/sh\necho >> {called}\nexec {MARKER.path().resolve()} "$@"\n')
-        program.chmod(0o700)
+        program, called = self.counting(MARKER)
         start = time.monotonic()
         done = run("mark", self.folder, program=program)
         self.assertLess(time.monotonic() - start, 20)
@@ -218,9 +215,10 @@ class Marking(Command):
         self.assertEqual(called.read_text(), "\n")
 
     @needs_joiner
+    @needs_filler
     def test_samples(self):
         done = run("mark", SAMPLES)
-        count = b"\n6 papers: 3 pass, 2 fail, 1 undecided\n"
+        count = b"\n7 papers: 4 pass, 2 fail, 1 undecided\n"
         self.assertEqual((done.returncode, done.stdout[-len(count):]), (0, count))
 
 
@@ -232,17 +230,17 @@ class Packing(Command):
         return subprocess.run([ROOT / "tools" / "pack", *map(str, words)], capture_output=True,
                               env={"PATH": path}, check=False)
 
-    @needs_marker
-    @needs_joiner
-    @needs_describer
-    @needs_tree_programs
+    # What is packed is what `rt check` built, whatever the variables name.
+    @unittest.skipUnless(all(program.built.is_file() for program in PROGRAMS),
+                         "a program is missing")
     def test_a_folder_that_marks(self):
         folder = self.folder / "desk"
         done = self.pack(folder)
         self.assertEqual((done.returncode, done.stdout.decode()), (
-            0, f"pack: {folder}: its samples are 6 papers: 3 pass, 2 fail, 1 undecided\n"))
+            0, f"pack: {folder}: its samples are 7 papers: 4 pass, 2 fail, 1 undecided\n"))
         for words in (("total", "samples/report.paper"), ("tidy", "samples/entry.paper"),
-                      ("item", "0", "samples/entry.paper"), ("why", "samples/rounds.paper")):
+                      ("item", "0", "samples/entry.paper"), ("why", "samples/rounds.paper"),
+                      ("why", "samples/types.paper")):
             there, here = (
                 subprocess.run([root / "tools" / "paper", *words], cwd=root, check=False,
                                capture_output=True) for root in (folder, ROOT))

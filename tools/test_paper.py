@@ -11,8 +11,8 @@ import marker
 from draft import parse
 from printed import paper_text
 from support import (
-    ROOT, SAMPLES, Command, needs_describer, needs_joiner, needs_marker, needs_tree_programs,
-    random_paper, random_sheet, run,
+    ROOT, SAMPLES, Command, needs_describer, needs_filler, needs_joiner, needs_marker,
+    needs_tree_programs, random_paper, random_sheet, run,
 )
 from usage import GRAMMAR, USES
 from words import NEVER_SHOWN, REASONS, REFUSALS, in_words
@@ -89,6 +89,8 @@ SAMPLE_MARKS = {
 }
 # Of papers whose base is a chain.
 CHAIN_MARKS = {"report": "passes"}
+# Of papers that have types.
+TYPE_MARKS = {"types": "passes"}
 
 
 class Writing(Command):
@@ -214,7 +216,7 @@ class OtherVerbs(Command):
 class Words(unittest.TestCase):
     def test_every_number_has_words(self):
         self.assertEqual(list(REASONS), list(range(101, 126)))
-        self.assertEqual(sorted(REFUSALS), list(range(1, 17)))
+        self.assertEqual(sorted(REFUSALS), list(range(1, 18)))
         for number in range(140, 153):
             self.assertEqual(in_words("fails", number), "a reason that the paper sets")
 
@@ -261,13 +263,17 @@ class Marks(Command):
                 self.assertEqual(done.stdout.decode().split(":")[0], mark, done.stderr)
 
     def test_samples(self):
-        self.assertEqual({*SAMPLE_MARKS, *CHAIN_MARKS},
+        self.assertEqual({*SAMPLE_MARKS, *CHAIN_MARKS, *TYPE_MARKS},
                          {file.stem for file in SAMPLES.glob("*.paper")})
         self.check_samples(SAMPLE_MARKS)
 
     @needs_joiner
     def test_samples_with_chains(self):
         self.check_samples(CHAIN_MARKS)
+
+    @needs_filler
+    def test_samples_with_types(self):
+        self.check_samples(TYPE_MARKS)
 
     def test_longest(self):
         """The longest marking that we know (docs/BENCHMARK.md)."""
@@ -301,6 +307,7 @@ class Documents(unittest.TestCase):
     @needs_marker
     @needs_joiner
     @needs_describer
+    @needs_filler
     def test_the_first_page_says_what_happens(self):
         """What README.md says of the lines that its commands print."""
         page = (ROOT / "README.md").read_text(encoding="utf-8")
@@ -317,6 +324,7 @@ class Documents(unittest.TestCase):
     @needs_joiner
     @needs_describer
     @needs_tree_programs
+    @needs_filler
     def test_the_readme_says_what_happens(self):
         """Each command after a $, and the output below it."""
         readme = README.read_text(encoding="utf-8")

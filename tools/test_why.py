@@ -12,7 +12,9 @@ from judgement import path
 from printed import paper_text
 from rules import Judge
 from sheet import SET_REASONS
-from support import ROOT, SAMPLES, Command, near_sheet, needs_joiner, needs_marker, random_sheet, run
+from support import (
+    ROOT, SAMPLES, Command, near_sheet, needs_filler, needs_joiner, needs_marker, random_sheet, run,
+)
 from test_paper import BY_REASON, EXAMPLES, MAY_NOT_OCCUR, NOT_SHOWN, SETTLED
 from tidying import tidy
 from why import Words, lines, short_lines
@@ -296,6 +298,7 @@ class Uses(Command):
         self.assertEqual(done.stdout.count(b"\n"), 2, done.stdout)
 
     @needs_joiner
+    @needs_filler
     def test_every_sample(self):
         for file in sorted(SAMPLES.glob("*.paper")):
             done = run("why", file)

@@ -1,13 +1,9 @@
 """Runs the proved programs that write a tree: joining, tidying, and the k-th
 item."""
 
-import re
-
 import layout
 from proved import ITEM, JOIN, TIDY
 from refusals import Refused, read_tree
-
-REFUSED = re.compile(rb"refused ([0-9]{1,3})\n")
 
 
 def join(levels, leaves):
@@ -29,17 +25,10 @@ def tree_from(program, data, leaves, without=None):
     """The tree that a program writes, None where it says in these words that there
     is none; raises Refused where it refuses the data, NoAnswer where it does none
     of the three."""
-    run = program.run(data)
-    if run.returncode != 0 or bool(run.stdout) == bool(run.stderr):
-        raise program.no_answer(run)
-    if run.stdout:
-        try:
-            return read_tree(run.stdout, leaves)
-        except Refused as refused:
-            raise program.no_answer(run) from refused
-    refused = REFUSED.fullmatch(run.stderr)
-    if refused:
-        raise Refused(int(refused.group(1)), f"{program.called} refuses it")
-    if run.stderr != without:
-        raise program.no_answer(run)
-    return None
+    run = program.written(data, without)
+    if run is None:
+        return None
+    try:
+        return read_tree(run.stdout, leaves)
+    except Refused as refused:
+        raise program.no_answer(run) from refused

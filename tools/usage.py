@@ -24,6 +24,7 @@ paper : NAME                 the paper's name, any text without #, if it has one
 DERIVED | BASE               the two trees, before all else
 leaves : LEAVES              every leaf, in the order of the leaf numbers
 LEAVES : name NUMBER         elements: the local name number, up to 65535
+LEAVES : type TYPE           elements: a type that XML Schema has built in
 LEAVES : PROCESS             wildcards: process contents skip, lax or strict
 LEAVES | LEAVES : VERDICTS   each of these as derived, each of those as base
 
@@ -36,6 +37,7 @@ a pair          minimum and maximum, up to 4294967295 or * for unbounded;
 a leaf          a letter, or a letter and a number from 1: w, w1, w2 ... are
                 wildcards, all other small letters elements
 LEAVES          one leaf, or several with commas
+TYPE            a name, as integer, or its number, 0 to 49 (docs/KEY.md, V1)
 VERDICTS        a verdict for both tables; or first and a verdict; or second
                 and a verdict; or first VERDICT, second VERDICT
 a verdict       ok (or 0), undecided (or 1), or a reason from 140 to 152
@@ -49,15 +51,19 @@ bracket is open, after | or +, and where the next line begins with one of these.
 {GRAMMAR}
 Where nothing else is said, equal leaves are ok and others 140 in both tables,
 an element's name number is its place among the leaves (from 0), process
-contents are skip, and the leaves are those of the trees as they turn up.
+contents are skip, and the leaves are those of the trees as they turn up. Of two
+elements that have types, the types decide in the second table: ok, or 148 where
+the derived one's is not derived from the base's; so they do where a line says
+undecided.
 
 `mark` and `why` take files, folders of files *.paper, and several papers in a
 file, parted by a blank line or by lines `paper : NAME`. `join`, `total`,
 `emptiable`, `tidy` and `item` take a paper without DERIVED | too. A number
 above 4294967295 is 'too large', and only what has no bound is 'unbounded'.
 
-The answers are those of the proved programs marker, join, describe, tidy and
-item, which `rt check` builds; MARKER, JOIN, DESCRIBE, TIDY and ITEM name others.
+The answers are those of the proved programs marker, join, describe, tidy, item
+and fill, which `rt check` builds; MARKER, JOIN, DESCRIBE, TIDY, ITEM and FILL
+name others.
 
 Exit status: 0 fine; 1 wrong notation, a refused sheet, or a program that
 disagrees; 2 bad usage, a file that can't be read or written, or no answer since

@@ -54,13 +54,15 @@ def particles(subject, node):
 
 
 def rules(node):
-    """The rule of the two kinds and, where they are others, that of the reason and
-    that by which an item makes it undecided."""
+    """The rule of the two kinds and, where they are others, that of the reason,
+    that of the verdict, and that by which an item makes it undecided."""
     found = [node.rule]
     if node.mark == OPEN and node.decisive:
         found.append(node.outcome.carried)
     elif not node.decisive and node.mark.number in REASONS:
         found.append(REASONS[node.mark.number][1])
+    if node.outcome.by:
+        found.append(node.outcome.by)
     return list(dict.fromkeys(found))
 
 
