@@ -15,7 +15,7 @@ use Rattle.types.proofs.Chains.{chain-ends}
 use Rattle.types.proofs.Verdicts.{ok-exactly}
 
 -- each row from the i-th on has a parent before it
-unfoldable earlier : ℕ → List ℕ → Bool
+unfoldable pub earlier : ℕ → List ℕ → Bool
 earlier i [] = true
 earlier i (p ∷ ps) = ltb p i && earlier (suc i) ps
 
@@ -25,7 +25,7 @@ earlier-at [] i h e k = omega arith
 earlier-at (p ∷ ps) i h e zero = omega (arith, ltb-true p i (and-true (ltb p i) _ e .0))
 earlier-at (p ∷ ps) i h e (suc k) = omega (arith, earlier-at ps (suc i) (omega arith) (and-true (ltb p i) _ e .1) k)
 
-ordered-by : (ps : List ℕ) → earlier 1 ps ≡ true → Ordered (0 ∷ ps)
+pub ordered-by : (ps : List ℕ) → earlier 1 ps ≡ true → Ordered (0 ∷ ps)
 ordered-by ps e = record { root = refl; falls = go }
   where
     go : (t : ℕ) → anyType < t → parentOf (0 ∷ ps) t < t
