@@ -312,6 +312,8 @@ class Documents(unittest.TestCase):
         """What README.md says of the lines that its commands print."""
         page = (ROOT / "README.md").read_text(encoding="utf-8")
         for command in ("echo 'S[a,b] | S[a,c,b]' | tools/paper mark", "tools/paper mark samples",
+                        r"printf 'a | b\na | b : first ok\na : type decimal\nb : type integer\n' "
+                        "| tools/paper mark",
                         "echo 'S[a,b] + - + c(0,1)' | tools/paper join",
                         "echo 'S(0,65536)[a(65536,65536)]' | tools/paper total"):
             with self.subTest(command=command):

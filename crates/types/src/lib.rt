@@ -1,5 +1,5 @@
 // Type verdicts from the built-in list (document 02 §6): the verdict for two types, and a sheet's second table filled in from its elements'
-// types. Every function but the two entries takes the table as a parameter.
+// types. Only the two entries name the built-in table; the functions below them take a table as a parameter.
 mod builtin;
 mod filling;
 
