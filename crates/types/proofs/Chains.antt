@@ -1,6 +1,6 @@
 -- Chains of a table whose parents have smaller numbers: the test is the relation, each chain ends at `anyType`, and a chain that has come to the base or below it is decided. Assumes nothing.
 use mathlib.Core.Path.{_≡_, refl, ap, sym, _∙_}
-use mathlib.Core.Bool.{Bool, true, false, _||_, or-true, or-false, or-self}
+use mathlib.Core.Bool.{Bool, true, false, _||_, or-true, or-self}
 use mathlib.Core.List.{List}
 use mathlib.Core.Logic.{_↔_}
 use Prim.Native.Nat.{ℕ, zero, suc, _+_, _-_, _≤_, _<_}

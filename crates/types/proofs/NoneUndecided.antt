@@ -4,7 +4,7 @@ use mathlib.Core.Bool.{Bool, true, false, cond, _&&_, _||_, and-true}
 use mathlib.Core.List.{List, [], _∷_}
 use mathlib.Core.Logic.{_⊎_, inl, inr}
 use Prim.Native.Nat.{ℕ, zero, suc, _+_, _*_, _≤_, _<_}
-use native.Mathlib.Nat.{mul-le-mul-right, suc-mul, le-of-lt}
+use native.Mathlib.Nat.{mul-le-mul-right, suc-mul}
 use native.Mathlib.Omega.{arith}
 use lib.Dec.{eqb}
 use lib.ListN.{length, getD, take, drop}
@@ -12,16 +12,16 @@ use lib.Seq.{getD-take, getD-drop}
 use borrow.Author.Tests.{eqb-true, eqb-false, eq-eqb}
 use Rattle.particle.proofs.Tests as tests
 use Rattle.rules.specs.Verdicts.{undecided}
-use Rattle.verdicts.specs.Paper.{leafSize, kindAt, leavesOf, verdictOf}
+use Rattle.verdicts.specs.Paper.{leafSize, kindAt, verdictOf}
 use Rattle.sheet.specs.declared.bodies.Leaf.{Leaf}
 use Rattle.sheet.specs.Layout.{leafCount, tablesAt, secondAt, derivedAt, tablesPart, secondPart, leavesPart, leavesIn, leafList}
 use Rattle.sheet.specs.Refused.{every, leafOk, leavesOk, kindsOf}
 use Rattle.sheet.proofs.AcceptedSheet.{passed}
-use Rattle.marking.specs.Answer.{sheetLeaves, sheetTables}
+use Rattle.marking.specs.Answer.{sheetLeaves}
 use Rattle.types.specs.Derives.{typeVerdict}
 use Rattle.types.specs.Fill.{isElement, leafKinds, fillVerdict}
 use Rattle.types.specs.Answer.{filledSheet}
-use Rattle.types.specs.Facts.{Fills, NoneUndecided}
+use Rattle.types.specs.Facts.{NoneUndecided}
 use Rattle.types.proofs.Verdicts.{not-undecided}
 use Rattle.types.proofs.Entry.{contents-ok, second-within}
 use Rattle.types.proofs.Filled.{sheet-accepted, same-count, each-filled, filled-accepted}

@@ -6,7 +6,7 @@ use native.Mathlib.Nat.{zero-add, suc-mul, zero-mul, le-refl}
 use native.Mathlib.Numerals.{add-one}
 use native.Mathlib.Omega.{arith}
 use lib.ListN.{length, getD, take, drop, set, length-append, length-set, length-take, length-drop}
-use lib.Seq.{drop-cons, drop-drop, drop-length, take-suc-set, append-snoc, drop-set-lt, take-all, take-at, drop-at, length-take-le}
+use lib.Seq.{drop-cons, drop-length, take-suc-set, append-snoc, drop-set-lt, take-all, take-at, drop-at, length-take-le}
 use borrow.Rule.Slice.PartMut.{midOf, putMid}
 use mir.Syntax.{w64}
 use mir.Val.{Fits}

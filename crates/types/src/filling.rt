@@ -2,7 +2,7 @@
 ghost use mathlib.Core.Path.{_≡_};
 ghost use mathlib.Core.Bool.{true, not, _||_};
 ghost use Prim.Native.Nat.{_*_, _≤_, _<_};
-ghost use lib.ListN.{length, take};
+ghost use lib.ListN.{length};
 ghost use Rattle.sheet.specs.Refused.{contentsOk};
 ghost use Rattle.types.specs.Derives.{hasType, Ordered};
 ghost use Rattle.types.specs.Fill.{isElement, typesOk, fillVerdict, fillRow, fillRows, leafKinds, fillSheet};

@@ -1,7 +1,6 @@
 -- `filling::fill_second` meets its contract. Assumes nothing.
 use Prim.Native.Nat.{_-_}
 use native.Mathlib.Omega.{arith}
-use lib.ListN.{length}
 use borrow.Author.Needs.{needs}
 use Rattle.types.specs.Fill.{fillVerdict}
 use Rattle.types.proofs.Rows.{TableLeft, table-start, row-within, row-end-fits, row-short, rows-less, table-next, table-done}
