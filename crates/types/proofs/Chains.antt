@@ -25,10 +25,6 @@ module _ (parents : List ℕ) where
   found (suc n) d b e = by-test d b (eqb d b) (derivesWithin n parents (parentOf parents d) b) refl (found n (parentOf parents d) b) e
 
 module _ (parents : List ℕ) (o : Ordered parents) where
-  parent-le : (t : ℕ) → parentOf parents t ≤ t
-  parent-le zero = omega (arith, o .root)
-  parent-le (suc t) = omega (arith, o .falls (suc t) (omega arith))
-
   parent-pred : (n t : ℕ) → t ≤ suc n → parentOf parents t ≤ n
   parent-pred n zero h = omega (arith, o .root)
   parent-pred n (suc t) h = omega (arith, o .falls (suc t) (omega arith))
@@ -70,7 +66,7 @@ module _ (parents : List ℕ) (o : Ordered parents) where
   none-above : (n d b : ℕ) → d < b → derivesWithin n parents d b ≡ false
   unfolding derivesWithin
   none-above zero d b h = ne-eqb d b (λ e. omega arith)
-  none-above (suc n) d b h = rw (ne-eqb d b (λ e. omega arith)) (none-above n (parentOf parents d) b (omega (arith, parent-le d)))
+  none-above (suc n) d b h = rw (ne-eqb d b (λ e. omega arith)) (none-above n (parentOf parents d) b (omega (arith, parent-pred d d (omega arith))))
 
   -- the base is not below: the type is the base, or not derived from it
   pub walk-done : (d b : ℕ) → d ≤ b → {r : Bool} → derives parents d b ≡ r → eqb d b ≡ r

@@ -4,25 +4,26 @@ use mathlib.Core.Bool.{Bool, true, false, not, _||_}
 use mathlib.Core.List.{List, [], _∷_, _++_}
 use Prim.Native.Nat.{ℕ, suc, _+_, _*_, _-_, _≤_}
 use native.Mathlib.Omega.{arith}
-use lib.ListN.{length, take, drop, length-take, length-drop}
+use lib.ListN.{length, take, drop, length-drop}
 use lib.Seq.{length-take-le}
 use borrow.Rule.Slice.PartMut.{midOf, putMid, post-is}
 use Rattle.particle.proofs.Tests.{and-true}
 use Rattle.intake.specs.declared.Refusal.{Refusal}
 use Rattle.intake.specs.declared.Refusal.the-variants.{TypeNumber}
 use Rattle.intake.specs.Number.{refusalNumber}
-use Rattle.entries.specs.Answer.{gives, refused}
+use Rattle.entries.specs.Answer.{Answer, gives, refused}
 use Rattle.sheet.specs.declared.SheetChecked.{SheetChecked}
 use Rattle.sheet.specs.declared.SheetChecked.the-variants.{Accepted, Refused}
-use Rattle.sheet.specs.Layout.{leafCount, secondAt, derivedAt, secondPart}
-use Rattle.sheet.specs.Refused.{contentsOk, sheetRefusal}
+use Rattle.sheet.specs.Layout.{leafCount, secondAt, derivedAt, leavesIn, leavesPart, secondPart}
+use Rattle.sheet.specs.Refused.{contentsOk, kindsOf, sheetRefusal}
 use Rattle.sheet.proofs.Tests.{test-failed, test-passed}
 use Rattle.sheet.proofs.Contents.{derived-at-within}
+use Rattle.sheet.proofs.Refusing as leaves
 use Rattle.sheet.proofs.LeafBytes.{length-leavesIn, length-kinds}
 use Rattle.sheet.proofs.AcceptedSheet.{passed}
 use Rattle.types.specs.Derives.{hasType}
 use Rattle.types.specs.Fill.{isElement, leafKinds, typesOk, fillVerdict, fillRows, fillSheet}
-use Rattle.types.specs.Answer.{fillAnswer, filledSheet}
+use Rattle.types.specs.Answer.{fillAnswer, sheetAfter, filledSheet}
 
 pub one-for-each : (parents kinds types : List ℕ) → typesOk parents kinds types ≡ true → length types ≡ length kinds
 unfolding typesOk
@@ -75,10 +76,11 @@ module _ (parents s types : List ℕ) (ok : contentsOk s ≡ true) {kinds : List
 pub contents-ok : (s : List ℕ) → sheetRefusal s ≡ Accepted → contentsOk s ≡ true
 contents-ok s a = passed s a .contents
 
--- a refusal writes nothing
-pub refuses : (parents s types : List ℕ) {after : List ℕ} → after ≡ s → (r : ℕ) → refused r ≡ fillAnswer parents s types → (refused r ≡ fillAnswer parents s types) × (after ≡ filledSheet parents s types)
+-- x is the answer, and the sheet is as this answer leaves it
+pub answers : (parents s types : List ℕ) {after : List ℕ} (x : Answer (Unit {0})) → after ≡ sheetAfter x (fillSheet parents s types) s → x ≡ fillAnswer parents s types
+    → (x ≡ fillAnswer parents s types) × (after ≡ filledSheet parents s types)
 unfolding filledSheet
-refuses parents s types k r e = (e, rw (← e) k)
+answers parents s types x k e = (e, rw (← e) k)
 
 -- c is what the check of the sheet found
 module _ (s : List ℕ) {c : SheetChecked} (ce : c ≡ sheetRefusal s) where
@@ -97,11 +99,14 @@ module _ (s : List ℕ) {n : ℕ} (ne : n ≡ leafCount s) (kinds : List ℕ) (k
   pub same-kinds : take n kinds ≡ leafKinds s
   same-kinds = rw ne k
 
+  put-down : take n kinds ≡ kindsOf (leavesIn n (leavesPart s))
+  put-down = rw ne k
+
   pub kind-each : n ≡ length (take n kinds)
-  kind-each = ne ∙ sym (ap length same-kinds ∙ (length-kinds _ ∙ length-leavesIn _ _))
+  kind-each = leaves.kind-each s ne refl kinds put-down
 
   pub kinds-within : n ≤ length kinds
-  kinds-within = omega (arith, kind-each, length-take n kinds)
+  kinds-within = leaves.kinds-within s ne refl kinds put-down
 
 -- the sheet is accepted, and x says whether the type numbers are in order
 module _ (parents s types : List ℕ) (a : sheetRefusal s ≡ Accepted) {kinds : List ℕ} (ke : kinds ≡ leafKinds s) {x : Bool} (xe : x ≡ typesOk parents kinds types) where
@@ -115,7 +120,3 @@ module _ (parents s types : List ℕ) (a : sheetRefusal s ≡ Accepted) {kinds :
   pub filled-answer : not x ≡ false → gives tt ≡ fillAnswer parents s types
   unfolding fillAnswer
   filled-answer h = rw (a, test-passed tested h)
-
-pub fills : (parents s types : List ℕ) {after : List ℕ} → after ≡ fillSheet parents s types → gives tt ≡ fillAnswer parents s types → (gives tt ≡ fillAnswer parents s types) × (after ≡ filledSheet parents s types)
-unfolding filledSheet
-fills parents s types k e = (e, rw (← e) k)

@@ -17,6 +17,7 @@ anySimpleType = 1
 abbrev pub hasType : (parents : List ℕ) (t : ℕ) → Bool
 hasType parents t = ltb t (length parents)
 
+-- a type's parent; of a number that the table does not have, `anyType`, which no answer shows
 abbrev pub parentOf : (parents : List ℕ) (t : ℕ) → ℕ
 parentOf parents t = getD parents t anyType
 

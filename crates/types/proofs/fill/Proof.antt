@@ -1,8 +1,9 @@
 -- `fill` meets its contract. Assumes nothing.
 use mathlib.Core.Path.{refl}
 use borrow.Author.Needs.{needs}
+use Rattle.entries.specs.Answer.{refused}
 use Rattle.sheet.proofs.Contents.{start-within}
-use Rattle.types.proofs.Entry.{refuses, sheet-refused, accepted, contents-found, same-kinds, kind-each, kinds-within}
+use Rattle.types.proofs.Entry.{answers, sheet-refused, accepted, contents-found, same-kinds, kind-each, kinds-within}
 use Rattle.types.proofs.fill.Statement.{statement}
 use Rattle.types.proofs.fill.Tie as tie
 
@@ -13,7 +14,7 @@ fill-spec =
     (λ c κs. search needs)
     (λ c. search needs)
     (λ c. search needs)
-    (λ c. refuses _ _ _ refl _ (search sheet-refused))
+    (λ c. answers _ _ _ (refused _) refl (search sheet-refused))
     (λ c. search needs)
     (λ c κs. search (start-within, contents-found))
     (λ c. search needs)

@@ -3,8 +3,9 @@ use mathlib.Core.Path.{refl}
 use borrow.Author.Needs.{needs}
 use Rattle.intake.specs.declared.Refusal.the-variants.{TypeNumber}
 use Rattle.intake.specs.Number.{refusalNumber}
+use Rattle.entries.specs.Answer.{gives, refused}
 use Rattle.sheet.proofs.Tests.{test-passed}
-use Rattle.types.proofs.Entry.{contents-ok, refuses, types-refused, filled-answer, fills}
+use Rattle.types.proofs.Entry.{contents-ok, answers, types-refused, filled-answer}
 use Rattle.types.proofs.fill_accepted.Statement.{statement}
 use Rattle.types.proofs.fill_accepted.Tie as tie
 
@@ -13,7 +14,7 @@ fill-accepted-spec =
     tie.close
     (tie.spec
     (λ c κs. search needs)
-    (λ c. refuses _ _ _ refl (refusalNumber TypeNumber) (search types-refused))
+    (λ c. answers _ _ _ (refused (refusalNumber TypeNumber)) refl (search types-refused))
     (λ c κs. (search needs, (search contents-ok, (search needs, search test-passed))))
     (λ c. search needs)
-    (λ c. fills _ _ _ (search needs) (search filled-answer)))
+    (λ c. answers _ _ _ (gives tt) (search needs) (search filled-answer)))
