@@ -14,6 +14,14 @@ use Rattle.exports.specs.Numbers.{written}
 pub number-of : {A E : Type 0} (meaning : E → Answer A) (number : Answer A → ℕ) {r e : E} {a : Answer A} {n : ℕ} → meaning r ≡ a → r ≡ e → n ≡ number (meaning e) → n ≡ number a
 number-of meaning number m g e = e ∙ ap number (ap meaning (sym g) ∙ m)
 
+-- n is the number of what r means, which is a
+pub number-as : {A : Type 0} (number : Answer A → ℕ) {m a : Answer A} {n : ℕ} → n ≡ number m → m ≡ a → n ≡ number a
+number-as number e q = e ∙ ap number q
+
+-- r is e, and n is e's number
+pub number-at : {E : Type 0} (number : E → ℕ) {r e : E} {n : ℕ} → r ≡ e → n ≡ number e → n ≡ number r
+number-at number g e = e ∙ ap number (sym g)
+
 pub sum-of : (b : ℕ) {n m : ℕ} → n ≡ m → b + n ≡ b + m
 sum-of b e = ap (λ (x : ℕ). b + x) e
 

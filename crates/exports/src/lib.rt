@@ -10,7 +10,7 @@ ghost use Rattle.entries.specs.TidyAnswer.{tidyAnswer, tidyBuffer};
 ghost use Rattle.chain.specs.Answer.{chainAnswer, chainBuffer};
 ghost use Rattle.marking.specs.Answer.{markSheet};
 ghost use Rattle.types.specs.Builtin.{builtinParents};
-ghost use Rattle.types.specs.Answer.{typeAnswer, fillAnswer, filledSheet};
+ghost use Rattle.types.specs.Answer.{typeMeaning, typeAnswer, fillMeaning, fillAnswer, filledSheet};
 ghost use Rattle.exports.specs.Numbers.{markNumber, totalMinNumber, totalMaxNumber, minNumber, maxNumber, emptiableNumber, countNumber, joinedNumber, verdictNumber, filledNumber, written};
 use chain::JoinedAnswer;
 use entries::EmptiableAnswer;
@@ -131,17 +131,41 @@ pub extern "C" fn marker_effective_particle(chain: &[u8], out: &mut [u8]) -> u64
     }
 }
 
+fn verdict_number(a: TypeAnswer) -> u32
+    ensures { λ r. ⌜ r ≡ verdictNumber (typeMeaning a) ⌝ }
+{
+    match a {
+        TypeAnswer::Ok => 0,
+        TypeAnswer::NotDerived => types::NOT_DERIVED as u32,
+        TypeAnswer::Refused(r) => REFUSED + intake::number(r),
+    }
+}
+
+fn filled_number(a: FilledAnswer) -> u32
+    ensures { λ r. ⌜ r ≡ filledNumber (fillMeaning a) ⌝ }
+{
+    match a {
+        FilledAnswer::Filled => 0,
+        FilledAnswer::Refused(r) => REFUSED + intake::number(r),
+    }
+}
+
 // The verdict for two built-in types by their numbers: 0 ok, 148 where the derived is neither the base nor derived from it, or 1000 + N
 // where it is refused with N, 17.
 #[no_mangle]
 pub extern "C" fn marker_type_derivation_ok(derived: u32, base: u32) -> u32
     ensures { λ r. ⌜ r ≡ verdictNumber (typeAnswer builtinParents derived base) ⌝ }
 {
-    match types::type_derivation_ok(derived, base) {
-        TypeAnswer::Ok => 0,
-        TypeAnswer::NotDerived => types::NOT_DERIVED as u32,
-        TypeAnswer::Refused(r) => REFUSED + intake::number(r),
-    }
+    verdict_number(types::type_derivation_ok(derived, base))
+}
+
+// The same for two types of a table of types, which has the number of each row's parent: 0, 148, or 1000 + N where it is refused with N,
+// 18 for the table, then 17.
+#[no_mangle]
+pub extern "C" fn marker_type_derivation_ok_by(parents: &[u8], derived: u32, base: u32) -> u32
+    ensures { λ r. ⌜ r ≡ verdictNumber (typeAnswer (now (parents .entry)) derived base) ⌝ }
+{
+    verdict_number(types::type_derivation_ok_by(parents, derived, base))
 }
 
 // 0 where the sheet's second table is filled in from the types of its elements, by a number for each leaf, or 1000 + N where it is
@@ -151,10 +175,16 @@ pub extern "C" fn marker_fill_types(s: &mut [u8], numbers: &[u8]) -> u32
     ensures { λ r. ⌜ r ≡ filledNumber (fillAnswer builtinParents (now (s .entry)) (now (numbers .entry))) ⌝ }
     ensures { λ _. ⌜ now (s .exit) ≡ filledSheet builtinParents (now (s .entry)) (now (numbers .entry)) ⌝ }
 {
-    match types::fill_types(s, numbers) {
-        FilledAnswer::Filled => 0,
-        FilledAnswer::Refused(r) => REFUSED + intake::number(r),
-    }
+    filled_number(types::fill_types(s, numbers))
+}
+
+// The same by a table of types in place of the built-in list; 18 for the table comes before every other refusal.
+#[no_mangle]
+pub extern "C" fn marker_fill_types_by(s: &mut [u8], numbers: &[u8], parents: &[u8]) -> u32
+    ensures { λ r. ⌜ r ≡ filledNumber (fillAnswer (now (parents .entry)) (now (s .entry)) (now (numbers .entry))) ⌝ }
+    ensures { λ _. ⌜ now (s .exit) ≡ filledSheet (now (parents .entry)) (now (s .entry)) (now (numbers .entry)) ⌝ }
+{
+    filled_number(types::fill_types_by(s, numbers, parents))
 }
 
 // The length in bytes of the root's k-th item, 0 where the tree is refused or k is not below the item count. The item's bytes are

@@ -6,7 +6,7 @@ use Prim.Native.Nat.{ℕ}
 use lib.Dec.{eqb}
 use Rattle.intake.specs.declared.Fault.the-variants.{Fields, Pair, AllGroup, Depth, Counts}
 use Rattle.intake.specs.declared.Refusal.{Refusal}
-use Rattle.intake.specs.declared.Refusal.the-variants.{Contents, Buffer, Leaf, Verdict, Base, Derived, Chain, Limit, TypeNumber}
+use Rattle.intake.specs.declared.Refusal.the-variants.{Contents, Buffer, Leaf, Verdict, Base, Derived, Chain, Limit, TypeNumber, TypeTable}
 use Rattle.intake.specs.Number.{refusalNumber}
 
 -- the first of a list that has this number
@@ -19,7 +19,7 @@ refusals =
     Contents ∷ Buffer ∷ Leaf ∷ Verdict
     ∷ Base Fields ∷ Base Pair ∷ Base AllGroup ∷ Base Depth ∷ Base Counts
     ∷ Derived Fields ∷ Derived Pair ∷ Derived AllGroup ∷ Derived Depth ∷ Derived Counts
-    ∷ Chain ∷ Limit ∷ TypeNumber
+    ∷ Chain ∷ Limit ∷ TypeNumber ∷ TypeTable
     ∷ []
 
 abbrev pub refusalOf : ℕ → Refusal
@@ -44,6 +44,7 @@ refusal-back (Derived Counts) = refl
 refusal-back Chain = refl
 refusal-back Limit = refl
 refusal-back TypeNumber = refl
+refusal-back TypeTable = refl
 
 pub one-refusal : (r q : Refusal) → refusalNumber r ≡ refusalNumber q → r ≡ q
 one-refusal r q e = sym (refusal-back r) ∙ (ap refusalOf e ∙ refusal-back q)

@@ -18,7 +18,7 @@ pub enum Fault {
     Counts,
 }
 
-// Why a sheet, a tree, a chain, a type number or a buffer is turned away.
+// Why a sheet, a tree, a chain, a type number, a table of types or a buffer is turned away.
 pub enum Refusal {
     Contents,
     Buffer,
@@ -29,6 +29,7 @@ pub enum Refusal {
     Chain,
     Limit,
     TypeNumber,
+    TypeTable,
 }
 
 // What the check of a tree finds.
@@ -222,6 +223,7 @@ pub fn number(r: Refusal) -> u32
         Refusal::Chain => 15,
         Refusal::Limit => 16,
         Refusal::TypeNumber => 17,
+        Refusal::TypeTable => 18,
     }
 }
 

@@ -3,7 +3,7 @@
 use mathlib.Core.Path.{_≡_}
 use mathlib.Core.List.{List}
 use Prim.Native.Nat.{ℕ}
-use lib.ListN.{length}
+use lib.ListN.{length, take, drop}
 use Rattle.particle.specs.Tree.{tree}
 use Rattle.particle.specs.Empty.{emptiable}
 use Rattle.totals.specs.Total.{total}
@@ -16,9 +16,9 @@ use Rattle.types.specs.Builtin.{builtinParents}
 use Rattle.types.specs.Answer.{typeAnswer, fillAnswer, filledSheet}
 use Rattle.exports.specs.Numbers.{markNumber, minNumber, maxNumber, emptiableNumber, countNumber, joinedNumber, verdictNumber, filledNumber, written}
 use Rattle.replay.specs.declared.Operation.{Operation}
-use Rattle.replay.specs.declared.Operation.the-variants.{Mark, TotalMin, TotalMax, Emptiable, Tidy, Item, Join, TypeDerivation, FillTypes}
+use Rattle.replay.specs.declared.Operation.the-variants.{Mark, TotalMin, TotalMax, Emptiable, Tidy, Item, Join, TypeDerivation, FillTypes, TypeDerivationBy, FillTypesBy}
 
--- the number that the entry answers, from the sheet, tree, chain or type numbers and the buffer
+-- the number that the entry answers, from the input (a sheet, tree, chain, type numbers or table of types) and the buffer
 abbrev pub numberOf : Operation → List ℕ → List ℕ → ℕ
 numberOf Mark s out = markNumber (markSheet s)
 numberOf TotalMin t out = minNumber (answer (refusalAlone t) (total (tree t)))
@@ -29,6 +29,8 @@ numberOf (Item k) t out = length (itemBytes k t)
 numberOf Join c out = joinedNumber (chainAnswer c out)
 numberOf (TypeDerivation d b) input out = verdictNumber (typeAnswer builtinParents d b)
 numberOf FillTypes types s = filledNumber (fillAnswer builtinParents s types)
+numberOf (TypeDerivationBy d b) parents out = verdictNumber (typeAnswer parents d b)
+numberOf (FillTypesBy k) input s = filledNumber (fillAnswer (drop k input) s (take k input))
 
 -- the buffer after the call
 abbrev pub bufferOf : Operation → List ℕ → List ℕ → List ℕ
@@ -41,6 +43,8 @@ bufferOf (Item k) t out = written (itemBytes k t) out
 bufferOf Join c out = chainBuffer c out
 bufferOf (TypeDerivation d b) input out = out
 bufferOf FillTypes types s = filledSheet builtinParents s types
+bufferOf (TypeDerivationBy d b) parents out = out
+bufferOf (FillTypesBy k) input s = filledSheet (drop k input) s (take k input)
 
 -- the stored number and the stored buffer are those that the definitions give
 pub record Agrees (op : Operation) (input before : List ℕ) (number : ℕ) (after : List ℕ) : Type 0 where

@@ -3,7 +3,7 @@
 // operation that is unknown.
 //
 // The input is one case after another. A case has a head of 15 bytes, its numbers little-endian: the operation (8 bits), k (16), the length
-// of the sheet, tree, chain or type numbers (16), the length of the lent buffer (16), the answer (64). Then come these, the buffer before the call,
+// of the input, a sheet, tree, chain, type numbers or table of types (16), the length of the lent buffer (16), the answer (64). Then come the input, the buffer before the call,
 // and the buffer after it. The operations, and the entry that each of them asks, in the numbers of crates/exports:
 //   1  marker_mark, over marking::mark
 //   2  marker_total_min, over entries::total_range
@@ -15,8 +15,12 @@
 //   8  marker_type_derivation_ok, over types::type_derivation_ok: k's lower byte is the derived type, its higher byte the base's; there is
 //      no input
 //   9  marker_fill_types, over types::fill_types: the input is the type numbers, the lent buffer the sheet
+//   10 marker_type_derivation_ok_by, over types::type_derivation_ok_by: the types as in 8; the input is the table of types
+//   11 marker_fill_types_by, over types::fill_types_by: the input is k type numbers and then the table of types, the lent buffer the sheet
 ghost use mathlib.Core.Path.{_≡_};
-ghost use lib.ListN.{length};
+ghost use lib.ListN.{length, take, drop};
+ghost use Rattle.types.specs.Answer.{fillAnswer, filledSheet};
+ghost use Rattle.exports.specs.Numbers.{filledNumber};
 ghost use Rattle.replay.specs.Expected.{numberOf, bufferOf, Agrees};
 use libc::STDIN_FILENO;
 use libc::STDOUT_FILENO;
@@ -41,6 +45,8 @@ enum Operation {
     Join,
     TypeDerivation(u32, u32),
     FillTypes,
+    TypeDerivationBy(u32, u32),
+    FillTypesBy(usize),
 }
 
 // What an operation's number stands for.
@@ -74,8 +80,22 @@ fn asked_for(number: u8, k: usize, low: u8, high: u8) -> Asked {
         7 => Asked::For(Operation::Join),
         8 => Asked::For(Operation::TypeDerivation(low as u32, high as u32)),
         9 => Asked::For(Operation::FillTypes),
+        10 => Asked::For(Operation::TypeDerivationBy(low as u32, high as u32)),
+        11 => Asked::For(Operation::FillTypesBy(k)),
         _ => Asked::Nothing,
     }
+}
+
+// Fills the sheet from the first k bytes of the input, by the table of types that the rest of it is.
+fn fill_by(sheet: &mut [u8], input: &[u8], k: usize) -> u32
+    ensures { λ r. ⌜ r ≡ filledNumber (fillAnswer (drop k (now (input .entry))) (now (sheet .entry)) (take k (now (input .entry)))) ⌝ }
+    ensures { λ _. ⌜ now (sheet .exit) ≡ filledSheet (drop k (now (input .entry))) (now (sheet .entry)) (take k (now (input .entry))) ⌝ }
+{
+    let n = input.len();
+    if k < n {
+        return exports::marker_fill_types_by(sheet, &input[..k], &input[k..]);
+    }
+    exports::marker_fill_types_by(sheet, &input[..n], &input[n..])
 }
 
 // Asks the exported entry.
@@ -93,6 +113,12 @@ fn answer(op: Operation, input: &[u8], lent: &mut [u8]) -> u64
         Operation::Join => exports::marker_effective_particle(input, lent),
         Operation::TypeDerivation(d, b) => exports::marker_type_derivation_ok(d, b) as u64,
         Operation::FillTypes => exports::marker_fill_types(lent, input) as u64,
+        Operation::TypeDerivationBy(d, b) => exports::marker_type_derivation_ok_by(
+            input,
+            d,
+            b,
+        ) as u64,
+        Operation::FillTypesBy(k) => fill_by(lent, input, k) as u64,
     }
 }
 

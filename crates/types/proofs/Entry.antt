@@ -9,7 +9,7 @@ use lib.Seq.{length-take-le}
 use borrow.Rule.Slice.PartMut.{midOf, putMid, post-is}
 use Rattle.particle.proofs.Tests.{and-true}
 use Rattle.intake.specs.declared.Refusal.{Refusal}
-use Rattle.intake.specs.declared.Refusal.the-variants.{TypeNumber}
+use Rattle.intake.specs.declared.Refusal.the-variants.{TypeNumber, TypeTable}
 use Rattle.intake.specs.Number.{refusalNumber}
 use Rattle.entries.specs.Answer.{Answer, gives, refused}
 use Rattle.sheet.specs.declared.SheetChecked.{SheetChecked}
@@ -22,6 +22,7 @@ use Rattle.sheet.proofs.Refusing as leaves
 use Rattle.sheet.proofs.LeafBytes.{length-leavesIn, length-kinds}
 use Rattle.sheet.proofs.AcceptedSheet.{passed}
 use Rattle.types.specs.Derives.{hasType}
+use Rattle.types.specs.Table.{tableOk}
 use Rattle.types.specs.Fill.{isElement, leafKinds, typesOk, fillVerdict, fillRows, fillSheet}
 use Rattle.types.specs.Answer.{fillAnswer, sheetAfter, filledSheet}
 
@@ -82,12 +83,18 @@ pub answers : (parents s types : List ℕ) {after : List ℕ} (x : Answer (Unit 
 unfolding filledSheet
 answers parents s types x k e = (e, rw (← e) k)
 
--- c is what the check of the sheet found
-module _ (s : List ℕ) {c : SheetChecked} (ce : c ≡ sheetRefusal s) where
-  pub sheet-refused : (parents types : List ℕ) {r : Refusal} → c ≡ Refused r → refused (refusalNumber r) ≡ fillAnswer parents s types
+-- w says whether the table of types is accepted
+module _ (parents s types : List ℕ) {w : Bool} (we : w ≡ tableOk parents) where
+  pub table-refused : not w ≡ true → refused (refusalNumber TypeTable) ≡ fillAnswer parents s types
   unfolding fillAnswer
-  sheet-refused parents types q = rw (sym ce ∙ q)
+  table-refused t = rw (test-failed we t)
 
+  -- c is what the check of the sheet found
+  pub sheet-refused : not w ≡ false → {c : SheetChecked} → c ≡ sheetRefusal s → {r : Refusal} → c ≡ Refused r → refused (refusalNumber r) ≡ fillAnswer parents s types
+  unfolding fillAnswer
+  sheet-refused t ce q = rw (test-passed we t, sym ce ∙ q)
+
+module _ (s : List ℕ) {c : SheetChecked} (ce : c ≡ sheetRefusal s) where
   pub accepted : c ≡ Accepted → sheetRefusal s ≡ Accepted
   accepted q = sym ce ∙ q
 
@@ -108,15 +115,15 @@ module _ (s : List ℕ) {n : ℕ} (ne : n ≡ leafCount s) (kinds : List ℕ) (k
   pub kinds-within : n ≤ length kinds
   kinds-within = leaves.kinds-within s ne refl kinds put-down
 
--- the sheet is accepted, and x says whether the type numbers are in order
-module _ (parents s types : List ℕ) (a : sheetRefusal s ≡ Accepted) {kinds : List ℕ} (ke : kinds ≡ leafKinds s) {x : Bool} (xe : x ≡ typesOk parents kinds types) where
+-- table and sheet are accepted, and x says whether the type numbers are in order
+module _ (parents s types : List ℕ) (w : tableOk parents ≡ true) (a : sheetRefusal s ≡ Accepted) {kinds : List ℕ} (ke : kinds ≡ leafKinds s) {x : Bool} (xe : x ≡ typesOk parents kinds types) where
   tested : x ≡ typesOk parents (leafKinds s) types
   tested = xe ∙ ap (λ (ks : List ℕ). typesOk parents ks types) ke
 
   pub types-refused : not x ≡ true → refused (refusalNumber TypeNumber) ≡ fillAnswer parents s types
   unfolding fillAnswer
-  types-refused h = rw (a, test-failed tested h)
+  types-refused h = rw (w, a, test-failed tested h)
 
   pub filled-answer : not x ≡ false → gives tt ≡ fillAnswer parents s types
   unfolding fillAnswer
-  filled-answer h = rw (a, test-passed tested h)
+  filled-answer h = rw (w, a, test-passed tested h)

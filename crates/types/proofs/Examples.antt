@@ -10,6 +10,7 @@ use Rattle.sheet.specs.Refused.{every, kindsOf, sheetRefusal}
 use Rattle.sheet.specs.Layout.{leavesIn}
 use Rattle.types.specs.Builtin.{builtinParents}
 use Rattle.types.specs.Derives.{derivesWithin}
+use Rattle.types.specs.Table.{rowsOk, tableOk}
 use Rattle.types.specs.Fill.{typesOk, fillRow, fillRows, fillSheet}
 use Rattle.types.specs.Answer.{typeAnswer, fillAnswer, filledSheet}
 
@@ -19,17 +20,17 @@ fifty = refl
 
 -- byte against decimal, its ancestor five links up, is ok; string against decimal is 148, and so is decimal against byte
 pub by-ancestors : (typeAnswer builtinParents 41 4 ≡ gives 0) × (typeAnswer builtinParents 2 4 ≡ gives 148) × (typeAnswer builtinParents 4 41 ≡ gives 148)
-unfolding typeAnswer derivesWithin
+unfolding typeAnswer tableOk rowsOk derivesWithin
 by-ancestors = (refl, refl, refl)
 
 -- anyType against anySimpleType is ok, though it is its parent; against string it is 148
 pub any-simple : (typeAnswer builtinParents 0 1 ≡ gives 0) × (typeAnswer builtinParents 0 2 ≡ gives 148)
-unfolding typeAnswer derivesWithin
+unfolding typeAnswer tableOk rowsOk derivesWithin
 any-simple = (refl, refl)
 
 -- the list has no number 50
 pub no-fifty : (typeAnswer builtinParents 49 0 ≡ gives 0) × (typeAnswer builtinParents 50 0 ≡ refused 17) × (typeAnswer builtinParents 0 50 ≡ refused 17)
-unfolding typeAnswer derivesWithin
+unfolding typeAnswer tableOk rowsOk derivesWithin
 no-fifty = (refl, refl, refl)
 
 -- Two elements, a of type integer and b of type decimal, undecided throughout the second table: S is a | b ---------
@@ -48,7 +49,7 @@ undecidedSheet = sheetWith (1 ∷ 1 ∷ 1 ∷ 1 ∷ [])
 
 -- b against a alone is 148; the first table keeps its undecided verdicts
 pub integer-decimal : (fillAnswer builtinParents undecidedSheet (34 ∷ 4 ∷ []) ≡ gives tt) × (filledSheet builtinParents undecidedSheet (34 ∷ 4 ∷ []) ≡ sheetWith (0 ∷ 0 ∷ 148 ∷ 0 ∷ []))
-unfolding fillAnswer filledSheet fillSheet typesOk fillRows fillRow derivesWithin sheetRefusal every leavesIn kindsOf refusalIn scan waiting records recordsN
+unfolding fillAnswer tableOk rowsOk filledSheet fillSheet typesOk fillRows fillRow derivesWithin sheetRefusal every leavesIn kindsOf refusalIn scan waiting records recordsN
 integer-decimal = (refl, refl)
 
 -- one number too few, one too many, and one that the list does not have are refused 17, and the sheet stays; a sheet of no bytes is refused 1 before that
@@ -58,5 +59,5 @@ pub turned-away :
     × (fillAnswer builtinParents undecidedSheet (34 ∷ 50 ∷ []) ≡ refused 17)
     × (filledSheet builtinParents undecidedSheet (34 ∷ 50 ∷ []) ≡ undecidedSheet)
     × (fillAnswer builtinParents [] (50 ∷ []) ≡ refused 1)
-unfolding fillAnswer filledSheet fillSheet typesOk fillRows fillRow derivesWithin sheetRefusal every leavesIn kindsOf refusalIn scan waiting records recordsN
+unfolding fillAnswer tableOk rowsOk filledSheet fillSheet typesOk fillRows fillRow derivesWithin sheetRefusal every leavesIn kindsOf refusalIn scan waiting records recordsN
 turned-away = (refl, refl, refl, refl, refl)

@@ -1,6 +1,6 @@
 -- The theorems of document 02 §6 on filling: each verdict by row and column, twice is once, the filled sheet is accepted and filled in as demand 3 says it, and a definite mark stays. Assumes nothing.
 use mathlib.Core.Path.{_≡_, refl, ap, sym, _∙_}
-use mathlib.Core.Bool.{Bool}
+use mathlib.Core.Bool.{Bool, true, false, cond}
 use mathlib.Core.List.{List, _++_}
 use Prim.Native.Nat.{ℕ, _+_, _*_}
 use native.Mathlib.Nat.{zero-add}
@@ -14,6 +14,7 @@ use Rattle.sheet.specs.Layout.{leafCount, secondAt, derivedAt, leavesIn, second
 use Rattle.sheet.specs.Refused.{kindsOf, sheetRefusal}
 use Rattle.marking.specs.Demand.{FilledSheet, unchanged}
 use Rattle.marking.proofs.Filling.{same, same-leaves, same-refusal, sheet-filled-keeps}
+use Rattle.types.specs.Table.{tableOk}
 use Rattle.types.specs.Fill.{leafKinds, typesOk, fillVerdict, fillRows, fillSecond, fillSheet}
 use Rattle.types.specs.Answer.{fillOr, fillAnswer, filledSheet}
 use Rattle.types.specs.Facts.{Fills, EachFilled, FilledTwice, FilledAccepted, FilledIsFilledIn, FilledKeepsMark}
@@ -22,9 +23,10 @@ use Rattle.types.proofs.Verdicts.{fill-twice}
 use Rattle.types.proofs.Entry.{contents-ok, length-second}
 use Rattle.types.proofs.FilledIn.{front, middle, back, filled-in}
 
-fills-accepted : (c : SheetChecked) (ok : Bool) → fillOr c ok ≡ gives tt → c ≡ Accepted
-fills-accepted Accepted ok e = refl
-fills-accepted (Refused r) ok e = absurd (let z : _≡_ {A = ℕ} 0 1 = cc in omega arith)
+fills-accepted : (n : ℕ) (table : Bool) (c : SheetChecked) (ok : Bool) → cond table (fillOr c ok) (refused n) ≡ gives tt → c ≡ Accepted
+fills-accepted n table Accepted ok e = refl
+fills-accepted n true (Refused r) ok e = absurd (let z : _≡_ {A = ℕ} 0 1 = cc in omega arith)
+fills-accepted n false (Refused r) ok e = absurd (let z : _≡_ {A = ℕ} 0 1 = cc in omega arith)
 
 written-by : (parents s types : List ℕ) → Fills parents s types → filledSheet parents s types ≡ fillSheet parents s types
 unfolding filledSheet
@@ -40,7 +42,7 @@ module _ (parents s types : List ℕ) where
 
   pub sheet-accepted : Fills parents s types → sheetRefusal s ≡ Accepted
   unfolding fillAnswer
-  sheet-accepted e = fills-accepted (sheetRefusal s) (typesOk parents (leafKinds s) types) e
+  sheet-accepted e = fills-accepted _ (tableOk parents) (sheetRefusal s) (typesOk parents (leafKinds s) types) e
 
   written : Fills parents s types → after ≡ fillSheet parents s types
   written e = written-by parents s types e

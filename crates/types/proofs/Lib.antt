@@ -1,14 +1,16 @@
 pub mod Chains
-pub mod BuiltinTable
 pub mod Steps
 pub mod Rows
 pub mod Answers
 pub mod Entry
 pub mod Cells
 pub mod Verdicts
+pub mod TypeTables
+pub mod BuiltinTable
 pub mod FilledIn
 pub mod OneAnswer
 pub mod Filled
 pub mod NoneUndecided
 pub mod TypesOk
 pub mod Examples
+pub mod TableExamples

@@ -1,19 +1,74 @@
--- What the code's tests say, one by one: a parent, a verdict for two types, the type numbers, a verdict filled in. Assumes nothing.
+-- What the code's tests say, one by one: a parent, a table of types, a verdict for two types, the type numbers, a verdict filled in. Assumes nothing.
 use mathlib.Core.Path.{_≡_, refl, ap, sym, _∙_}
 use mathlib.Core.Bool.{Bool, true, false, not, _&&_, _||_, or-true, and-false}
 use mathlib.Core.List.{List, [], _∷_}
-use Prim.Native.Nat.{ℕ, suc, _+_, _≤_, _<_}
+use Prim.Native.Nat.{ℕ, zero, suc, _+_, _≤_, _<_}
 use native.Mathlib.Numerals.{add-one}
 use native.Mathlib.Omega.{arith}
-use lib.Dec.{eqb, leb}
+use lib.Dec.{eqb, leb, ltb}
 use lib.ListN.{length, getD, drop, List·getD-eq-default}
 use lib.Seq.{drop-cons, drop-length}
 use borrow.Author.Tests.{le-leb, lt-leb, eq-eqb, ne-eqb, not-true, not-false}
 use Rattle.types.specs.Derives.{parentOf, hasType, derives, notDerived, typeVerdict}
+use Rattle.types.specs.Table.{mostTypes, rowOk, rowsOk, tableOk}
 use Rattle.types.specs.Fill.{isElement, typesOk, fillVerdict}
 
 pub no-parent : (parents : List ℕ) (t : ℕ) → length parents ≤ t → 0 ≡ parentOf parents t
 no-parent parents t h = sym (List·getD-eq-default parents 0 h)
+
+-- A table of types --------------------------------------------------------------
+
+module _ (parents : List ℕ) (row : ℕ) {p : ℕ} (pe : p ≡ parentOf parents row) where
+  pub row-0 : row ≡ 0 → eqb p 0 ≡ rowOk row (parentOf parents row)
+  row-0 e = rw (← pe, e)
+
+  pub row-1 : row ≡ 1 → eqb p 0 ≡ rowOk row (parentOf parents row)
+  row-1 e = rw (← pe, e)
+
+  pub later-row : (row ≡ 0 → ⊥) → (row ≡ 1 → ⊥) → ltb p row ≡ rowOk row (parentOf parents row)
+  later-row h g = rw (← pe) (go row h g)
+    where
+      go : (t : ℕ) → (t ≡ 0 → ⊥) → (t ≡ 1 → ⊥) → ltb p t ≡ rowOk t p
+      go zero h g = absurd (h refl)
+      go (suc zero) h g = absurd (g refl)
+      go (suc (suc t)) h g = refl
+
+-- the rows before this one are in order
+pub record RowsLeft (parents : List ℕ) (row : ℕ) : Type 0 where
+  pub within : row ≤ length parents
+  pub rest : rowsOk row (drop row parents) ≡ tableOk parents
+
+module _ (parents : List ℕ) where
+  pub no-row : length parents < 1 → false ≡ tableOk parents
+  unfolding tableOk
+  no-row h = rw (lt-leb 1 (length parents) h)
+
+  pub too-many-rows : mostTypes < length parents → false ≡ tableOk parents
+  unfolding tableOk
+  too-many-rows h = rw (lt-leb (length parents) mostTypes h, and-false (leb 1 (length parents)))
+
+  pub rows-start : 1 ≤ length parents → length parents ≤ mostTypes → RowsLeft parents 0
+  unfolding tableOk
+  rows-start h g = record { within = omega arith; rest = sym (rw (le-leb 1 (length parents) h, le-leb (length parents) mostTypes g)) }
+
+  module _ (row : ℕ) (v : RowsLeft parents row) where
+    row-turn : row < length parents → rowsOk row (drop row parents) ≡ (rowOk row (parentOf parents row) && rowsOk (row + 1) (drop (row + 1) parents))
+    unfolding rowsOk
+    row-turn h = rw (drop-cons parents row 0 h, add-one)
+
+    module _ (h : row < length parents) {r : Bool} (e : r ≡ rowOk row (parentOf parents row)) where
+      pub row-bad : not r ≡ true → false ≡ tableOk parents
+      row-bad t = sym (sym (v .rest) ∙ (row-turn h ∙ rw (sym e ∙ not-true r t)))
+
+      pub row-next : not r ≡ false → RowsLeft parents (row + 1)
+      row-next t = record { within = omega arith; rest = sym (row-turn h ∙ rw (sym e ∙ not-false r t)) ∙ v .rest }
+
+    pub rows-done : length parents ≤ row → true ≡ tableOk parents
+    unfolding rowsOk
+    rows-done h =
+        let q : row ≡ length parents = omega (arith, v .within) in
+        let k : drop row parents ≡ [] = ap (λ (n : ℕ). drop n parents) q ∙ drop-length parents in
+        sym (sym (v .rest) ∙ rw k)
 
 -- The verdict for two types ----------------------------------------------------
 

@@ -1,8 +1,8 @@
--- What the verdict for two types and the filling of a lent sheet answer, and what the sheet then holds. Assumes nothing: these are definitions.
+-- What the verdict for two types and the filling of a lent sheet answer by a table of types, and what the sheet then holds. Assumes nothing: these are definitions.
 use mathlib.Core.Bool.{Bool, true, false, cond, _&&_}
 use mathlib.Core.List.{List}
 use Prim.Native.Nat.{ℕ}
-use Rattle.intake.specs.declared.Refusal.the-variants.{TypeNumber}
+use Rattle.intake.specs.declared.Refusal.the-variants.{TypeNumber, TypeTable}
 use Rattle.intake.specs.Number.{refusalNumber}
 use Rattle.entries.specs.Answer.{Answer, gives, refused}
 use Rattle.sheet.specs.declared.SheetChecked.{SheetChecked}
@@ -13,11 +13,19 @@ use Rattle.types.specs.declared.TypeAnswer.the-variants as verdict
 use Rattle.types.specs.declared.FilledAnswer.{FilledAnswer}
 use Rattle.types.specs.declared.FilledAnswer.the-variants as filled
 use Rattle.types.specs.Derives.{hasType, notDerived, typeVerdict}
+use Rattle.types.specs.Table.{tableOk}
 use Rattle.types.specs.Fill.{leafKinds, typesOk, fillSheet}
 
+-- 18, before all the others: a table of types that is not accepted; else the answer by the table
+abbrev pub byTable : {A : Type 0} (parents : List ℕ) → Answer A → Answer A
+byTable parents a = cond (tableOk parents) a (refused (refusalNumber TypeTable))
+
 -- 17: a type number that the table does not have; else the verdict
+abbrev pub typeOr : (known : Bool) (verdict : ℕ) → Answer ℕ
+typeOr known v = cond known (gives v) (refused (refusalNumber TypeNumber))
+
 unfoldable pub typeAnswer : (parents : List ℕ) (derived base : ℕ) → Answer ℕ
-typeAnswer parents d b = cond (hasType parents d && hasType parents b) (gives (typeVerdict parents d b)) (refused (refusalNumber TypeNumber))
+typeAnswer parents d b = byTable parents (typeOr (hasType parents d && hasType parents b) (typeVerdict parents d b))
 
 -- 1 to 14 by the sheet, then 17
 abbrev pub fillOr : SheetChecked → (typesOk : Bool) → Answer (Unit {0})
@@ -26,7 +34,7 @@ fillOr checked.Accepted false = refused (refusalNumber TypeNumber)
 fillOr checked.Accepted true = gives tt
 
 unfoldable pub fillAnswer : (parents s types : List ℕ) → Answer (Unit {0})
-fillAnswer parents s types = fillOr (sheetRefusal s) (typesOk parents (leafKinds s) types)
+fillAnswer parents s types = byTable parents (fillOr (sheetRefusal s) (typesOk parents (leafKinds s) types))
 
 -- the sheet after this answer: a refusal writes nothing
 abbrev pub sheetAfter : Answer (Unit {0}) → (written before : List ℕ) → List ℕ

@@ -1,30 +1,50 @@
--- What the theorems of document 02 §6 state, of any table of types. They speak of `fillAnswer` and `filledSheet`, at the table `builtinParents` for the entry. The
--- contract of the entry `fill_types` is that its answer r to the sheet s and the type numbers has fillMeaning r ≡ fillAnswer builtinParents s types, and that the lent
--- sheet then is filledSheet builtinParents s types; so they hold of what the entry answers and writes. Assumes nothing: these are definitions.
-use mathlib.Core.Bool.{false}
+-- What the theorems of document 02 §6 and §7 state, of any table of types. They speak of `typeAnswer`, `fillAnswer` and `filledSheet`. The contract of the entry
+-- `fill_types_by` is that its answer r to the sheet s, the type numbers and the table has fillMeaning r ≡ fillAnswer parents s types, and that the lent sheet then is
+-- filledSheet parents s types; that of `fill_types` is the same at the table `builtinParents`. So they hold of what the entries answer and write. Assumes nothing:
+-- these are definitions.
+use mathlib.Core.Bool.{true, false, _&&_}
 use mathlib.Core.List.{List}
 use mathlib.Core.Logic.{_⊎_, _↔_}
 use mathlib.Core.Path.{_≡_}
 use Prim.Native.Nat.{ℕ, _+_, _*_, _<_}
 use lib.ListN.{length, getD}
 use Rattle.rules.specs.Verdicts.{Mark, undecided}
-use Rattle.entries.specs.Answer.{gives}
+use Rattle.intake.specs.declared.Refusal.the-variants.{TypeTable}
+use Rattle.intake.specs.Number.{refusalNumber}
+use Rattle.entries.specs.Answer.{gives, refused}
 use Rattle.sheet.specs.declared.SheetChecked.the-variants.{Accepted}
 use Rattle.sheet.specs.Layout.{leafCount, secondPart}
 use Rattle.sheet.specs.Refused.{sheetRefusal}
 use Rattle.marking.specs.Answer.{sheetLeaves, sheetTables, markSheet}
 use Rattle.marking.specs.Demand.{FilledSheet}
-use Rattle.types.specs.Derives.{anyType, anySimpleType, Derives, typeVerdict}
-use Rattle.types.specs.Fill.{leafKinds, fillVerdict}
-use Rattle.types.specs.Answer.{fillAnswer, filledSheet}
+use Rattle.types.specs.Derives.{anyType, anySimpleType, hasType, Derives, derivesWithin, typeVerdict}
+use Rattle.types.specs.Table.{tableOk}
+use Rattle.types.specs.Fill.{leafKinds, typesOk, fillVerdict}
+use Rattle.types.specs.Answer.{typeOr, typeAnswer, fillOr, fillAnswer, filledSheet}
 
 -- Each chain ends at `anyType`.
 abbrev pub ChainsEnd : (parents : List ℕ) → Type 0
 ChainsEnd parents = (t : ℕ) → Derives parents t anyType
 
+-- And it comes there in no more links than its row's number.
+abbrev pub EndsWithin : (parents : List ℕ) → Type 0
+EndsWithin parents = (t : ℕ) → derivesWithin t parents t anyType ≡ true
+
 -- The verdict is ok exactly where the base is `anyType` or `anySimpleType`, or the derived type or one of its ancestors is the base.
 abbrev pub OkExactly : (parents : List ℕ) → Type 0
 OkExactly parents = (d b : ℕ) → (typeVerdict parents d b ≡ 0) ↔ ((b ≡ anyType) ⊎ ((b ≡ anySimpleType) ⊎ Derives parents d b))
+
+-- By a table that is not accepted the entries answer 18, whatever else is handed in, and nothing is written.
+abbrev pub TableFirst : Type 0
+TableFirst = (parents : List ℕ) → tableOk parents ≡ false
+    → ((d b : ℕ) → typeAnswer parents d b ≡ refused (refusalNumber TypeTable))
+    × ((s types : List ℕ) → (fillAnswer parents s types ≡ refused (refusalNumber TypeTable)) × (filledSheet parents s types ≡ s))
+
+-- By this table they answer as document 02 §6 says: a verdict, or 17; filled, or 1 to 14, then 17.
+abbrev pub ByRule : (parents : List ℕ) → Type 0
+ByRule parents =
+    ((d b : ℕ) → typeAnswer parents d b ≡ typeOr (hasType parents d && hasType parents b) (typeVerdict parents d b))
+    × ((s types : List ℕ) → fillAnswer parents s types ≡ fillOr (sheetRefusal s) (typesOk parents (leafKinds s) types))
 
 -- one type number for each leaf, and the table has that of each element; nothing is asked of a wildcard's
 abbrev pub TypesFit : (parents kinds types : List ℕ) → Type 0

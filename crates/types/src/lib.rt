@@ -1,13 +1,16 @@
-// Type verdicts from the built-in list (document 02 §6): the verdict for two types, and a sheet's second table filled in from its elements'
-// types. Only the two entries name the built-in table; the functions below them take a table as a parameter.
+// Type verdicts from a table of types: the verdict for two types, and a sheet's second table filled in from its elements' types. Two
+// entries take a table (document 02 §7); the two without one are these at the built-in list (document 02 §6).
 mod builtin;
 mod filling;
+mod table;
 
 ghost use mathlib.Core.Path.{_≡_};
+ghost use mathlib.Core.Bool.{true};
 ghost use Prim.Native.Nat.{_<_};
 ghost use Rattle.sheet.specs.Refused.{sheetRefusal};
 ghost use Rattle.types.specs.Builtin.{builtinParents};
 ghost use Rattle.types.specs.Derives.{Ordered, hasType, parentOf, derives, typeVerdict};
+ghost use Rattle.types.specs.Table.{tableOk};
 ghost use Rattle.types.specs.Fill.{leafKinds};
 ghost use Rattle.types.specs.Answer.{typeAnswer, typeMeaning, fillAnswer, filledSheet, fillMeaning};
 use builtin::BUILTIN_PARENTS;
@@ -85,26 +88,10 @@ fn has_type(parents: &[u8], t: usize) -> bool
     t < parents.len()
 }
 
-// The verdict for two types of a table, or that it does not have one of them.
-fn answer_types(parents: &[u8], derived: usize, base: usize) -> TypeAnswer
-    requires { ⌜ Ordered (now parents) ⌝ }
-    ensures { λ r. ⌜ typeMeaning r ≡ typeAnswer (now (parents .entry)) derived base ⌝ }
-{
-    if !has_type(parents, derived) {
-        return TypeAnswer::Refused(Refusal::TypeNumber);
-    }
-    if !has_type(parents, base) {
-        return TypeAnswer::Refused(Refusal::TypeNumber);
-    }
-    if verdict(parents, derived, base) == OK {
-        return TypeAnswer::Ok;
-    }
-    TypeAnswer::NotDerived
-}
-
-// Fills an accepted sheet's second table in, where its leaves have these kinds and the type numbers are in order.
+// Fills an accepted sheet's second table in by an accepted table of types, where its leaves have these kinds and the type numbers are in
+// order.
 fn fill_accepted(sheet: &mut [u8], types: &[u8], parents: &[u8], kinds: &[u8]) -> FilledAnswer
-    requires { ⌜ Ordered (now parents) ⌝ }
+    requires { ⌜ tableOk (now parents) ≡ true ⌝ }
     requires { ⌜ sheetRefusal (now sheet) ≡ SheetChecked.Accepted ⌝ }
     requires { ⌜ now kinds ≡ leafKinds (now sheet) ⌝ }
     ensures { λ r. ⌜ fillMeaning r ≡ fillAnswer (now (parents .entry)) (now (sheet .entry)) (now (types .entry)) ⌝ }
@@ -117,12 +104,33 @@ fn fill_accepted(sheet: &mut [u8], types: &[u8], parents: &[u8], kinds: &[u8]) -
     FilledAnswer::Filled
 }
 
-// Fills the sheet's second table in by a table of types. Refused, and nothing written, where the sheet is or the type numbers are.
-fn fill(sheet: &mut [u8], types: &[u8], parents: &[u8]) -> FilledAnswer
-    requires { ⌜ Ordered (now parents) ⌝ }
+// The verdict for two types by their rows in a table of types: the number of each row's parent.
+pub fn type_derivation_ok_by(parents: &[u8], derived: u32, base: u32) -> TypeAnswer
+    ensures { λ r. ⌜ typeMeaning r ≡ typeAnswer (now (parents .entry)) derived base ⌝ }
+{
+    let accepted = table::table_ok(parents);
+    let known = has_type(parents, derived as usize) & has_type(parents, base as usize);
+    if !accepted {
+        return TypeAnswer::Refused(Refusal::TypeTable);
+    }
+    if !known {
+        return TypeAnswer::Refused(Refusal::TypeNumber);
+    }
+    if verdict(parents, derived as usize, base as usize) == OK {
+        return TypeAnswer::Ok;
+    }
+    TypeAnswer::NotDerived
+}
+
+// Fills the sheet's second table in, where it has 1 for two elements, from their rows in a table of types, a number for each leaf; every
+// other byte keeps its value. On every refusal nothing is written.
+pub fn fill_types_by(sheet: &mut [u8], types: &[u8], parents: &[u8]) -> FilledAnswer
     ensures { λ r. ⌜ fillMeaning r ≡ fillAnswer (now (parents .entry)) (now (sheet .entry)) (now (types .entry)) ⌝ }
     ensures { λ _. ⌜ now (sheet .exit) ≡ filledSheet (now (parents .entry)) (now (sheet .entry)) (now (types .entry)) ⌝ }
 {
+    if !table::table_ok(parents) {
+        return FilledAnswer::Refused(Refusal::TypeTable);
+    }
     if let SheetChecked::Refused(r) = sheet::check(sheet) {
         return FilledAnswer::Refused(r);
     }
@@ -136,7 +144,7 @@ fn fill(sheet: &mut [u8], types: &[u8], parents: &[u8]) -> FilledAnswer
 pub fn type_derivation_ok(derived: u32, base: u32) -> TypeAnswer
     ensures { λ r. ⌜ typeMeaning r ≡ typeAnswer builtinParents derived base ⌝ }
 {
-    answer_types(&BUILTIN_PARENTS, derived as usize, base as usize)
+    type_derivation_ok_by(&BUILTIN_PARENTS, derived, base)
 }
 
 // Fills the sheet's second table in, where it has 1 for two elements, from the built-in types of these numbers, one for each leaf; every
@@ -145,5 +153,5 @@ pub fn fill_types(sheet: &mut [u8], types: &[u8]) -> FilledAnswer
     ensures { λ r. ⌜ fillMeaning r ≡ fillAnswer builtinParents (now (sheet .entry)) (now (types .entry)) ⌝ }
     ensures { λ _. ⌜ now (sheet .exit) ≡ filledSheet builtinParents (now (sheet .entry)) (now (types .entry)) ⌝ }
 {
-    fill(sheet, types, &BUILTIN_PARENTS)
+    fill_types_by(sheet, types, &BUILTIN_PARENTS)
 }

@@ -6,6 +6,7 @@ use Rattle.intake.specs.Number.{refusalNumber}
 use Rattle.entries.specs.Answer.{gives, refused}
 use Rattle.sheet.proofs.Tests.{test-passed}
 use Rattle.types.proofs.Entry.{contents-ok, answers, types-refused, filled-answer}
+use Rattle.types.proofs.TypeTables.{table-ordered}
 use Rattle.types.proofs.fill_accepted.Statement.{statement}
 use Rattle.types.proofs.fill_accepted.Tie as tie
 
@@ -15,6 +16,6 @@ fill-accepted-spec =
     (tie.spec
     (λ c κs. search needs)
     (λ c. answers _ _ _ (refused (refusalNumber TypeNumber)) refl (search types-refused))
-    (λ c κs. (search needs, (search contents-ok, (search needs, search test-passed))))
+    (λ c κs. (search table-ordered, (search contents-ok, (search needs, search test-passed))))
     (λ c. search needs)
     (λ c. answers _ _ _ (gives tt) (search needs) (search filled-answer)))

@@ -1,10 +1,7 @@
 -- `fill_types` meets its contract. Assumes nothing.
-use mathlib.Core.Path.{refl}
 use borrow.Author.Needs.{needs}
-use Rattle.types.proofs.BuiltinTable.{earlier, ordered-by}
 use Rattle.types.proofs.fill_types.Statement.{statement}
 use Rattle.types.proofs.fill_types.Tie as tie
 
 pub fill-types-spec : {M : Type 1} → statement M
-unfolding earlier
-fill-types-spec = tie.close (tie.spec (λ c. search needs) (λ c κs. ordered-by _ refl) (λ c. search needs) (λ c. search needs))
+fill-types-spec = tie.close (tie.spec (λ c. search needs) (λ c κs. search needs) (λ c. search needs) (λ c. search needs))
