@@ -2,9 +2,10 @@
 // differences, then how many answers agreed: `N agreed, M differ`. The closing line also says where the input is cut off or has an
 // operation that is unknown.
 //
-// The input is one case after another. A case has a head of 15 bytes, its numbers little-endian: the operation (8 bits), k (16), the length
-// of the input, a sheet, tree, chain, type numbers or table of types (16), the length of the lent buffer (16), the answer (64). Then come the input, the buffer before the call,
-// and the buffer after it. The operations, and the entry that each of them asks, in the numbers of crates/exports:
+// Standard input is one case after another. A case has a head of 15 bytes, its numbers little-endian: the operation (8 bits), k (16), the
+// length of its input, which is a sheet, a tree, a chain, type numbers or a table of types (16), the length of the lent buffer (16), the
+// answer (64). Then come the input, the buffer before the call, and the buffer after it. The operations, and the entry that each of them
+// asks, in the numbers of crates/exports:
 //   1  marker_mark, over marking::mark
 //   2  marker_total_min, over entries::total_range
 //   3  marker_total_max, over entries::total_range

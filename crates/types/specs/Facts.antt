@@ -42,8 +42,7 @@ TableFirst = (parents : List ℕ) → tableOk parents ≡ false
 
 -- By this table they answer as document 02 §6 says: a verdict, or 17; filled, or 1 to 14, then 17.
 abbrev pub ByRule : (parents : List ℕ) → Type 0
-ByRule parents =
-    ((d b : ℕ) → typeAnswer parents d b ≡ typeOr (hasType parents d && hasType parents b) (typeVerdict parents d b))
+ByRule parents = ((d b : ℕ) → typeAnswer parents d b ≡ typeOr (hasType parents d && hasType parents b) (typeVerdict parents d b))
     × ((s types : List ℕ) → fillAnswer parents s types ≡ fillOr (sheetRefusal s) (typesOk parents (leafKinds s) types))
 
 -- one type number for each leaf, and the table has that of each element; nothing is asked of a wildcard's

@@ -19,8 +19,8 @@ table-ok-spec =
     (tie.spec
     Inv-loop
     μ-loop
-    (λ c. search no-row)
-    (λ c. search too-many-rows)
+    (λ c. no-row _ (omega arith))
+    (λ c. too-many-rows _ (omega arith))
     (λ c. search rows-start)
     (λ c κs. search needs)
     (λ c. search row-bad)
