@@ -3,8 +3,8 @@
  * libexports.a, which `rt staticlib exports` writes to target/staticlib. The
  * archive is for x86-64 Linux. link/README.md has an example. words.h, which
  * this header includes, has the numbers of reasons and refusals and their words,
- * and types.h those of types and their names; sheet.h writes a sheet, a tree or a
- * chain into a buffer.
+ * and types.h those of types, their names and parents; sheet.h writes a sheet, a
+ * tree or a chain into a buffer.
  *
  * What a function promises is what its contract in crates/exports/src/lib.rt
  * promises, over the numbers of crates/exports/specs/Numbers.antt. The
@@ -24,7 +24,7 @@
  *   null or dangling.
  * - Any address will do: bytes have no alignment.
  * - `out` shares no byte with `tree` or `chain`, and the `sheet` of
- *   marker_fill_types none with `types`.
+ *   marker_fill_types and marker_fill_types_by none with `types` or `parents`.
  * - Until the call returns, nothing else (a thread, a signal handler) writes
  *   the bytes of a slice, or reads those at a `uint8_t *`.
  *
@@ -89,7 +89,11 @@
  *   trees that are present      1+2L     16 for each record
  *
  *   types                       at byte  bytes     values
- *   the type of leaf number l   l        1         a number of types.h; wildcard: any
+ *   the type of leaf number l   l        1         a number of types.h, or a row of the
+ *                                                  table of types; wildcard: any
+ *
+ *   table of types              at byte  bytes     values
+ *   the row of row t's parent   t        1         rows 0 and 1: 0; later: below t
  *
  * A tree is its records in preorder, a group before its items: 1 to 1000 of
  * them, the root at depth 1, depth at most 12. An all-group's items are elements.
@@ -119,6 +123,7 @@ extern "C" {
 #define MARKER_MOST_RECORDS 1000 /* the records of a tree */
 #define MARKER_MOST_DEPTH 12     /* the depth of a tree, whose root is at depth 1 */
 #define MARKER_MOST_LEVELS 17    /* the levels of a chain */
+/* And of types.h: MARKER_MOST_TYPES, 200, the rows of a table of types. */
 
 #define MARKER_MOST_STACK 57344  /* bytes of stack that a call takes, at most; not proved */
 
@@ -127,11 +132,12 @@ extern "C" {
 #define MARKER_UNDECIDED UINT32_C(1)
 #define MARKER_REFUSED UINT32_C(1000)  /* added to a refusal's number */
 
-/* What marker_type_derivation_ok answers besides a refusal: a verdict. */
+/* What marker_type_derivation_ok and marker_type_derivation_ok_by answer besides a
+ * refusal: a verdict. */
 #define MARKER_DERIVATION_OK UINT32_C(0)
 #define MARKER_NOT_DERIVED UINT32_C(148)  /* a reason that the paper sets */
 
-/* What marker_fill_types answers besides a refusal. */
+/* What marker_fill_types and marker_fill_types_by answer besides a refusal. */
 #define MARKER_FILLED UINT32_C(0)
 
 /* What marker_emptiable answers besides a refusal. */
@@ -268,8 +274,52 @@ uint32_t marker_type_derivation_ok(uint32_t derived, uint32_t base);
 uint32_t marker_fill_types(uint8_t *sheet, size_t sheet_len, const uint8_t *types,
                            size_t types_len);
 
-/* The refusal's number in what marker_mark, marker_type_derivation_ok or
- * marker_fill_types returned; 0 where there is none. */
+/*
+ * The verdict for two types of a table of types, by their rows.
+ *
+ * `parents` has a byte for each row, from row 0 on: the row of its parent. Row 0 is
+ * its own parent and stands for anyType; row 1 has parent 0 and stands for
+ * anySimpleType; every later row's parent is an earlier row. A table of one row has
+ * no anySimpleType.
+ *
+ * Returns MARKER_DERIVATION_OK where `base` is 0 or 1, or the derived type or one of
+ * its ancestors, however far up, and MARKER_NOT_DERIVED where it is none of these.
+ * With marker_built_in_parents of types.h it answers as marker_type_derivation_ok.
+ *
+ * Or MARKER_REFUSED + N where it is refused with N: 18 where parents_len is 0 or
+ * above MARKER_MOST_TYPES, or a row's parent is not as said, then 17 where the table
+ * does not have one of the two rows. marker_type_table_fault of types.h tells which
+ * row 18 is for.
+ */
+uint32_t marker_type_derivation_ok_by(const uint8_t *parents, size_t parents_len,
+                                      uint32_t derived, uint32_t base);
+
+/*
+ * Fills in the second table of a sheet from the types of its elements, by a table of
+ * types.
+ *
+ * `types` has a type number for each leaf, from leaf number 0 on: its row in the
+ * table of types, which `parents` has as in marker_type_derivation_ok_by. A
+ * wildcard's is not read: it may be any byte.
+ *
+ * Returns MARKER_FILLED. Each byte of the second table that was 1, undecided, and
+ * whose row and column are both elements now has the verdict that
+ * marker_type_derivation_ok_by answers for the row's type as derived and the
+ * column's as base. Every other byte of `sheet` keeps its value. A filling done
+ * twice is the filling done once.
+ *
+ * Or returns MARKER_REFUSED + N where it is refused with N, and every byte of
+ * `sheet` keeps its value: 18 for the table of types, then 1, 3 to 14 for the sheet,
+ * as in marker_mark, then 17 where types_len is not the sheet's leaf count, or the
+ * table of types does not have an element's number, whether or not a verdict needs
+ * it.
+ */
+uint32_t marker_fill_types_by(uint8_t *sheet, size_t sheet_len, const uint8_t *types,
+                              size_t types_len, const uint8_t *parents, size_t parents_len);
+
+/* The refusal's number in what marker_mark, marker_type_derivation_ok,
+ * marker_fill_types, marker_type_derivation_ok_by or marker_fill_types_by returned; 0
+ * where there is none. */
 static inline uint32_t marker_mark_refusal(uint32_t mark)
 {
     return mark > MARKER_REFUSED ? mark - MARKER_REFUSED : 0;

@@ -1,7 +1,7 @@
 //! The marker for Rust: safe functions over the C functions of `libexports.a`,
 //! which `rt staticlib exports` writes. Take this file into a crate as a module
-//! (`mod marker;`), a `no_std` crate too: it uses `core` alone. link/README.md
-//! has an example with its command.
+//! (`mod marker;`), a `no_std` crate too: it uses `core` alone. words.rs must
+//! stand beside it. link/README.md has an example with its command.
 //!
 //! Every byte string is an input, and a bad one is refused by number. What a
 //! function promises is what the contracts in crates/exports/src/lib.rt
@@ -15,6 +15,11 @@
 #![allow(dead_code)]
 
 use core::fmt;
+
+#[path = "words.rs"]
+mod words;
+
+pub use words::{Reason, Refusal};
 
 // As link/marker.h declares them: a slice is a pointer and a length. That these
 // lines are those of crates/exports is held by link/check-names.
@@ -44,6 +49,20 @@ extern "C" {
         types: *const u8,
         types_len: usize,
     ) -> u32;
+    fn marker_type_derivation_ok_by(
+        parents: *const u8,
+        parents_len: usize,
+        derived: u32,
+        base: u32,
+    ) -> u32;
+    fn marker_fill_types_by(
+        sheet: *mut u8,
+        sheet_len: usize,
+        types: *const u8,
+        types_len: usize,
+        parents: *const u8,
+        parents_len: usize,
+    ) -> u32;
 }
 
 /// The length of a tree's record in bytes.
@@ -69,6 +88,9 @@ pub const MOST_DEPTH: usize = 12;
 
 /// A chain has at most so many levels.
 pub const MOST_LEVELS: usize = 17;
+
+/// A table of types has at most so many rows.
+pub const MOST_TYPES: usize = 200;
 
 /// A call takes at most so many bytes of stack, for whoever sizes a thread's.
 /// It is counted and tested (`link/stack`, `link/test_stack.c`), not proved.
@@ -108,120 +130,6 @@ impl fmt::Display for Mark {
         }
     }
 }
-
-// A type of docs/KEY.md's numbers: a constant for each, whose words are its
-// documentation and what it displays as; other numbers have the words $other.
-macro_rules! numbers {
-    ($(#[$doc:meta])* $type:ident, $other:literal: $($number:literal $name:ident $words:literal)*) => {
-        $(#[$doc])*
-        #[derive(Debug, Clone, Copy, PartialEq, Eq, Hash, PartialOrd, Ord)]
-        pub struct $type(u32);
-
-        impl $type {
-            $(
-                #[doc = $words]
-                pub const $name: $type = $type($number);
-            )*
-
-            /// Its number in docs/KEY.md.
-            pub fn number(self) -> u32 {
-                self.0
-            }
-
-            /// Its words in docs/KEY.md.
-            pub fn words(self) -> &'static str {
-                match self.0 {
-                    $($number => $words,)*
-                    _ => $other,
-                }
-            }
-        }
-
-        impl fmt::Display for $type {
-            fn fmt(&self, f: &mut fmt::Formatter<'_>) -> fmt::Result {
-                f.write_str(self.words())
-            }
-        }
-    };
-}
-
-numbers! {
-    /// Why a sheet fails: 101 to 125, or 140 to 152 for a reason that the paper
-    /// sets. 110 to 112 and 125 arise only in an element's second reading, whose
-    /// reason is never the mark's. It displays as the words of docs/KEY.md.
-    Reason, "a reason that the paper sets":
-    101 ELEMENT_WILDCARD_RANGE "element, wildcard: the range isn't within the base's"
-    102 WILDCARD_ELEMENT "wildcard, element: a wildcard can't restrict an element"
-    103 WILDCARD_RANGE "wildcard, wildcard: the range isn't within the base's"
-    104 WEAKER_PROCESS_CONTENTS "wildcard, wildcard: weaker process contents"
-    105 SEQUENCE_RANGE "sequence, sequence: the range isn't within the base's"
-    106 CHOICE_RANGE "choice, choice: the range isn't within the base's"
-    107 ALL_RANGE "all, all: the range isn't within the base's"
-    108 NOT_IN_ALL "an item against an all-group: no untaken base element has its local name number"
-    109 MISSING_FROM_ALL "against an all-group: a base element of minimum above 0 is left untaken"
-    110 SEQUENCE_REQUIRED
-        "element, sequence: the base minimum is above 1 (second reading, which no mark shows)"
-    111 NO_ALTERNATIVE
-        "element, choice: no alternative passes (second reading, which no mark shows)"
-    112 CHOICE_REQUIRED
-        "element, choice: the base minimum is above 1 (second reading, which no mark shows)"
-    113 TOTAL_RANGE "group, wildcard: the total range isn't within the base's"
-    114 WILDCARD_GROUP "wildcard, group: a wildcard can't restrict a group"
-    115 GROUP_KIND "all against sequence or choice, or choice against sequence or all"
-    116 SEQUENCE_TOTAL "sequence, choice: the pair times the item count isn't within the base pair"
-    117 MEMBER_ALTERNATIVE "sequence, choice: a member restricts none of the alternatives"
-    118 SEQUENCE_ALL_RANGE "sequence, all: the range isn't within the base's"
-    119 MEMBER_NOT_ELEMENT "sequence, all: an item that isn't an element"
-    120 NOT_ALLOWED "ordered walk: a derived item is left and the base items are used up"
-    121 REQUIRED_MISSING "ordered walk: a base item is left over that isn't emptiable"
-    122 MIN_BELOW "element, element: the minimum is below the base's"
-    123 MAX_UNBOUNDED "element, element: the maximum is unbounded, the base's isn't"
-    124 MAX_ABOVE "element, element: the maximum is above the base's"
-    125 BASE_MAY_NOT_OCCUR
-        "element, sequence or choice: the base maximum is 0 (second reading, which no mark shows)"
-}
-
-numbers! {
-    /// Why a sheet, a tree, a chain or types are refused: 1 to 17. A tree alone, or
-    /// of a chain, is refused as a derived tree is. It displays as the words of
-    /// docs/KEY.md.
-    Refusal, "no refusal of docs/KEY.md":
-    1 CONTENTS
-        "the caller's mistake: sheet under 8 bytes, a contents field out of its range, or total \
-         field or actual length unlike the formula"
-    2 BUFFER "the caller's mistake: buffer shorter than the tree handed in, or than the joined tree, which no sheet shows"
-    3 LEAF "the examiner's mistake: the fields of a leaf are out of order"
-    4 VERDICT "the examiner's mistake: a verdict that is not 0, 1 or 140 to 152"
-    5 BASE_FIELDS "the examiner's mistake: base tree, the fields of a record are out of order"
-    6 BASE_PAIR "the examiner's mistake: base tree, the minimum is above a bounded maximum"
-    7 BASE_ALL_GROUP
-        "the examiner's mistake: base tree, an all-group's maximum isn't 1, or an all's item is \
-         no element"
-    8 BASE_DEPTH "the examiner's mistake: base tree, the depth is above 12"
-    9 BASE_COUNTS "the examiner's mistake: base tree, the item counts need fewer or more records"
-    10 DERIVED_FIELDS
-        "the candidate's mistake: derived tree, or a tree alone, the fields of a record are out \
-         of order"
-    11 DERIVED_PAIR
-        "the candidate's mistake: derived tree, or a tree alone, the minimum is above a bounded \
-         maximum"
-    12 DERIVED_ALL_GROUP
-        "the candidate's mistake: derived tree, or a tree alone, an all-group's maximum isn't 1, \
-         or an all's item is no element"
-    13 DERIVED_DEPTH "the candidate's mistake: derived tree, or a tree alone, the depth is above 12"
-    14 DERIVED_COUNTS
-        "the candidate's mistake: derived tree, or a tree alone, the item counts need fewer or \
-         more records"
-    15 CHAIN
-        "the caller's mistake: chain of 0 or over 17 levels, or of a length unlike its counts"
-    16 LIMIT "the examiner's mistake: joined tree over 1000 records or depth 12"
-    17 TYPE_NUMBER
-        "the examiner's mistake: a type number that the list does not have, or not one for each \
-         leaf"
-}
-
-// So that `?` hands a refusal on. A reason is an answer, not an error.
-impl core::error::Error for Refusal {}
 
 /// A total range: its least and its greatest number. Both are exact: sums and
 /// products are formed without limit, zero times unbounded being 0, and only the
@@ -380,6 +288,44 @@ pub fn fill_types(sheet: &mut [u8], types: &[u8]) -> Result<(), Refusal> {
     unless_added(answer).map(|_| ())
 }
 
+/// The verdict for two types of a table of types, by their rows: as
+/// `type_derivation_ok` for the built-in list, which is `Type::PARENTS` of types.rs
+/// in this form.
+///
+/// `parents` has the row of each row's parent, a byte each. Row 0 is its own parent
+/// and stands for `anyType`, row 1 has parent 0 and stands for `anySimpleType`, and
+/// every later row's parent is an earlier row. Refused with 18 where a row breaks
+/// this, or there are 0 rows or over `MOST_TYPES`; then with 17 where the table does
+/// not have one of the numbers. A table of one row has no number 1.
+pub fn type_derivation_ok_by(
+    parents: &[u8],
+    derived: impl Into<u32>,
+    base: impl Into<u32>,
+) -> Result<bool, Refusal> {
+    let (lent, len) = (parents.as_ptr(), parents.len());
+    let (derived, base) = (derived.into(), base.into());
+    // SAFETY: a `&[u8]` is what the header asks of a slice.
+    let verdict = unsafe { marker_type_derivation_ok_by(lent, len, derived, base) };
+    Ok(unless_added(verdict)? == 0)
+}
+
+/// Fills in the second table of a sheet from the types of its elements, as
+/// `fill_types` does, by a table of types: verdicts become those of
+/// `type_derivation_ok_by`, and an element's number is its type's row.
+///
+/// Refused with 18 as there, then with 1, 3 to 14 as in `mark`, then with 17 where
+/// `types` is not as long as the sheet has leaves, or the table of types does not
+/// have an element's number, and then every byte of `sheet` keeps its value.
+pub fn fill_types_by(sheet: &mut [u8], types: &[u8], parents: &[u8]) -> Result<(), Refusal> {
+    let (lent, len) = (sheet.as_mut_ptr(), sheet.len());
+    let (numbers, count) = (types.as_ptr(), types.len());
+    let (rows, row_count) = (parents.as_ptr(), parents.len());
+    // SAFETY: as in `tidy`, of three slices; the two that are only read may share
+    // bytes.
+    let answer = unsafe { marker_fill_types_by(lent, len, numbers, count, rows, row_count) };
+    unless_added(answer).map(|_| ())
+}
+
 // The number, unless it stands for a sheet's or types' refusal.
 fn unless_added(number: u32) -> Result<u32, Refusal> {
     match number.checked_sub(REFUSED) {
@@ -391,7 +337,7 @@ fn unless_added(number: u32) -> Result<u32, Refusal> {
 // The number, unless it stands for a tree's or chain's refusal.
 fn unless_refused(number: u64) -> Result<u64, Refusal> {
     match number.checked_sub(BEYOND) {
-        // Refusals are 1 to 17.
+        // Refusals are 1 to 18.
         Some(refusal @ 1..) if number != TOO_LARGE => Err(Refusal(refusal as u32)),
         _ => Ok(number),
     }

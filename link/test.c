@@ -349,6 +349,8 @@ int main(void)
     test_drawn();
     test_types();
     test_filling();
+    test_type_tables();
+    test_filling_by();
     printf("%lu checks, %lu differences\n", checks, differences);
     return differences != 0;
 }

@@ -69,6 +69,16 @@ void check_lent(const char *what, const uint8_t *bytes, size_t count);
 /* The verdict for two types, by the outline of test_types.c. */
 uint32_t by_outline(uint32_t derived, uint32_t base);
 
+/* What test_type_tables.c reads in document 02: whether these rows are a table of
+ * types, and if so, the verdict for two of them. */
+int in_order(const uint8_t *parents, size_t rows);
+uint32_t by_parents(const uint8_t *parents, uint32_t derived, uint32_t base);
+
+/* A drawn number below this one; the rows of a drawn table of types, which has room
+ * for MARKER_MOST_TYPES. */
+uint32_t drawn(uint32_t limit);
+size_t drawn_table(uint8_t *parents);
+
 /* The tests of the other files. */
 void test_chains(void);
 void test_layout(void);
@@ -79,5 +89,7 @@ void test_faults(void);
 void test_drawn(void);
 void test_types(void);
 void test_filling(void);
+void test_type_tables(void);
+void test_filling_by(void);
 
 #endif

@@ -4,8 +4,10 @@
 mod marker;
 mod sheet;
 mod test_chains;
+mod test_filling_by;
 mod test_layout;
 mod test_sheet;
+mod test_type_tables;
 mod test_types;
 mod types;
 

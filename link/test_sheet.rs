@@ -257,15 +257,15 @@ fn errors() -> Outcome {
 }
 
 /// Numbers as they are drawn.
-struct Draw(u32);
+pub struct Draw(pub u32);
 
 impl Draw {
-    fn below(&mut self, limit: u32) -> u32 {
+    pub fn below(&mut self, limit: u32) -> u32 {
         self.0 = self.0.wrapping_mul(1664525).wrapping_add(1013904223);
         (self.0 >> 8) % limit
     }
 
-    fn once_in(&mut self, times: u32) -> bool {
+    pub fn once_in(&mut self, times: u32) -> bool {
         self.below(times) == 0
     }
 

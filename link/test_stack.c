@@ -19,11 +19,12 @@ enum { WILDCARD_AT = CONTENTS_SIZE + LEAF_SIZE, DERIVED_AT = TREES_AT(2) };
 enum { SECOND_AT = DERIVED_AT - 2 * 2 };
 enum { AN_ELEMENT = 0, A_WILDCARD = 1 };
 
-static uint8_t sheet[DERIVED_AT + 2 * MARKER_MOST_TREE];
+static uint8_t sheet[DERIVED_AT + 2 * MARKER_MOST_TREE], filled_by[sizeof sheet];
 static uint8_t chain[MARKER_MOST_CHAIN];
+static uint8_t chain_of_types[MARKER_MOST_TYPES];
 static size_t length, derived_length, chain_length;
 static struct {
-    uint64_t min, max, emptiable, records, joined, item, verdict, filled, mark;
+    uint64_t min, max, emptiable, records, joined, item, verdict, filled, verdict_by, by, mark;
 } got;
 static ucontext_t test, small;
 
@@ -62,6 +63,8 @@ static void calls(void)
 {
     static uint8_t out[MARKER_MOST_TREE];
     static const uint8_t types[2] = {MARKER_TYPE_UNSIGNED_BYTE, MARKER_NO_TYPE};
+    static const uint8_t last[2] = {MARKER_MOST_TYPES - 1, MARKER_NO_TYPE};
+    const size_t rows = sizeof chain_of_types;
     const uint8_t *derived = sheet + DERIVED_AT;
     got.min = marker_total_min(derived, derived_length);
     got.max = marker_total_max(derived, derived_length);
@@ -71,6 +74,8 @@ static void calls(void)
     got.item = marker_item(derived, derived_length, 0, out, sizeof out);
     got.verdict = marker_type_derivation_ok(types[0], MARKER_TYPE_DECIMAL);
     got.filled = marker_fill_types(sheet, length, types, sizeof types);
+    got.verdict_by = marker_type_derivation_ok_by(chain_of_types, rows, last[0], 2);
+    got.by = marker_fill_types_by(filled_by, length, last, sizeof last, chain_of_types, rows);
     got.mark = marker_mark(sheet, length);
 }
 
@@ -105,6 +110,7 @@ static void check_passes(const char *what, const uint8_t *base, const uint8_t *e
     length = contents(sheet, 2, (size_t)records[0], (size_t)(end - base) / MARKER_RECORD);
     sheet[WILDCARD_AT] = 1;
     sheet[SECOND_AT] = MARKER_UNDECIDED;
+    memcpy(filled_by, sheet, length);
     uint8_t *tree = levels(chain, 1, records);
     memcpy(tree, derived, derived_length);
     chain_length = (size_t)(tree - chain) + derived_length;
@@ -118,11 +124,17 @@ static void check_passes(const char *what, const uint8_t *base, const uint8_t *e
     check(what, derived[COUNT] == 1 ? derived_length - MARKER_RECORD : MARKER_RECORD, got.item);
     check(what, MARKER_DERIVATION_OK, got.verdict);
     check(what, MARKER_FILLED, got.filled);
+    check(what, MARKER_DERIVATION_OK, got.verdict_by);
+    check(what, MARKER_FILLED, got.by);
+    check(what, 0, (uint64_t)(memcmp(sheet, filled_by, length) != 0));
     check(what, MARKER_PASSES, got.mark);
 }
 
 void test_stack(void)
 {
+    for (size_t row = 1; row < sizeof chain_of_types; row++) {
+        chain_of_types[row] = (uint8_t)(row - 1);
+    }
     for (int kind = SEQUENCE; kind <= CHOICE; kind++) {
         uint64_t deep_max = UINT64_C(1) << (MOST_DEPTH - 1);
         uint8_t *base = below(sheet + DERIVED_AT, kind, MOST_DEPTH - 1, AN_ELEMENT);

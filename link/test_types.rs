@@ -80,19 +80,26 @@ fn unknown_numbers() {
     }
 }
 
-/// What is filled in, within bytes that it must leave as they are.
-fn filled(sheet: &[u8], types: &[u8]) -> Result<Vec<u8>, Refusal> {
+/// What a filling makes of a sheet, within bytes that it must leave as they are.
+pub fn lent_to(
+    fill: impl FnOnce(&mut [u8]) -> Result<(), Refusal>,
+    sheet: &[u8],
+) -> Result<Vec<u8>, Refusal> {
     const GUARD: usize = 16;
     let (start, end) = (GUARD, GUARD + sheet.len());
     let mut lent = pattern(end + GUARD);
     put(&mut lent, start, sheet);
     let around = [lent[..start].to_vec(), lent[end..].to_vec()];
-    let answer = fill_types(&mut lent[start..end], types);
+    let answer = fill(&mut lent[start..end]);
     assert_eq!([&lent[..start], &lent[end..]], [&around[0][..], &around[1]], "around the sheet");
     if answer.is_err() {
         assert_eq!(lent[start..end], *sheet, "nothing is written");
     }
     answer.map(|()| lent[start..end].to_vec())
+}
+
+fn filled(sheet: &[u8], types: &[u8]) -> Result<Vec<u8>, Refusal> {
+    lent_to(|lent| fill_types(lent, types), sheet)
 }
 
 /// It is filled in so; and filled in again, it stays so.
@@ -103,7 +110,7 @@ fn fills(sheet: &[u8], types: &[u8], expected: &[u8]) {
 
 // The leaves of `undecided`: three elements, and a wildcard among them.
 const W: usize = 1;
-const FOUR: usize = 4;
+pub const FOUR: usize = 4;
 const FIRST: usize = CONTENTS_SIZE + FOUR * LEAF_SIZE;
 const SECOND: usize = FIRST + FOUR * FOUR;
 const TREES: usize = SECOND + FOUR * FOUR;
@@ -130,7 +137,7 @@ fn undecided(derived: &[u8], base: &[u8]) -> Vec<u8> {
 }
 
 /// a | b, with the first table ok and the second undecided.
-fn a_and_b() -> Vec<u8> {
+pub fn a_and_b() -> Vec<u8> {
     let mut bytes = undecided(&once(ELEMENT, 0, 0), &once(ELEMENT, 2, 0));
     bytes[FIRST..SECOND].fill(0);
     bytes
@@ -204,19 +211,11 @@ fn marks() -> Result<(), Refusal> {
     Ok(())
 }
 
-/// The sheet is refused before its types are, right or wrong.
-fn refused_first(sheet: &[u8], refusal: Refusal) {
-    for types in [&good()[..], &[50; FOUR], &[]] {
-        assert_eq!(filled(sheet, types), Err(refusal));
-    }
-}
-
-#[test]
-fn refused_sheets() {
+/// Sheets of these leaves that are refused, each with its refusal: all of them.
+pub fn spoiled_sheets() -> Vec<(Vec<u8>, Refusal)> {
     let good = a_and_b();
-    refused_first(&[], Refusal::CONTENTS);
-    refused_first(&good[..good.len() - 1], Refusal::CONTENTS);
-    refused_first(&[&good[..], &[0]].concat(), Refusal::CONTENTS);
+    let lengths = [vec![], good[..good.len() - 1].to_vec(), [&good[..], &[0]].concat()];
+    let mut sheets: Vec<_> = lengths.map(|sheet| (sheet, Refusal::CONTENTS)).into();
     let places = [
         (ZERO, Refusal::CONTENTS),
         (CONTENTS_SIZE, Refusal::LEAF),
@@ -226,7 +225,7 @@ fn refused_sheets() {
     for (place, refusal) in places {
         let mut spoiled = good.clone();
         spoiled[place] = 2;
-        refused_first(&spoiled, refusal);
+        sheets.push((spoiled, refusal));
     }
     let element = once(ELEMENT, 0, 0).to_vec();
     let trees = [
@@ -241,8 +240,19 @@ fn refused_sheets() {
         (once(SEQUENCE, 0, 1).to_vec(), Refusal::BASE_COUNTS, Refusal::DERIVED_COUNTS),
     ];
     for (tree, as_base, as_derived) in trees {
-        refused_first(&undecided(&element, &tree), as_base);
-        refused_first(&undecided(&tree, &element), as_derived);
+        sheets.push((undecided(&element, &tree), as_base));
+        sheets.push((undecided(&tree, &element), as_derived));
+    }
+    sheets
+}
+
+/// The sheet is refused before its types are, right or wrong.
+#[test]
+fn refused_sheets() {
+    for (sheet, refusal) in spoiled_sheets() {
+        for types in [&good()[..], &[50; FOUR], &[]] {
+            assert_eq!(filled(&sheet, types), Err(refusal));
+        }
     }
 }
 
@@ -267,8 +277,8 @@ fn refused_types() {
     }
     assert_eq!(filled(&PRINTED, &[0]).as_deref(), Ok(&PRINTED[..]));
     assert_eq!(filled(&PRINTED, &[]), Err(Refusal::TYPE_NUMBER));
-    let words = "the examiner's mistake: a type number that the list does not have, or not one \
-                 for each leaf";
+    let words = "the examiner's mistake: a type number that the list or the table of types does \
+                 not have, or not one for each leaf";
     assert_eq!(Refusal::TYPE_NUMBER.to_string(), words);
 }
 

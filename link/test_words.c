@@ -1,7 +1,8 @@
 /*
  * Tests of words.h and of a fault's words, which test.c runs with its own: words
- * for each number that is a reason, a refusal or a fault, and for others.
- * link/check-names holds the words themselves to docs/KEY.md.
+ * for each number that is a reason, a refusal or a fault, and for others; for a row
+ * of a table of types. link/check-names holds the words of reasons and refusals to
+ * docs/KEY.md.
  */
 #include <string.h>
 
@@ -37,10 +38,10 @@ static void test_refusals(void)
 {
     const char *none = marker_refusal_words(0);
     check_words("no refusal of docs/KEY.md", none);
-    for (uint32_t number = 1; number <= MARKER_REFUSAL_TYPE_NUMBER; number++) {
+    for (uint32_t number = 1; number <= MARKER_REFUSAL_TYPE_TABLE; number++) {
         check("a refusal's words", 1, (uint64_t)(strcmp(marker_refusal_words(number), none) != 0));
     }
-    check_words(none, marker_refusal_words(MARKER_REFUSAL_TYPE_NUMBER + 1));
+    check_words(none, marker_refusal_words(MARKER_REFUSAL_TYPE_TABLE + 1));
     check_words(none, marker_refusal_words(UINT32_MAX));
     uint32_t refusal = marker_mark_refusal(marker_mark(NULL, 0));
     check_words("the caller's mistake: sheet under 8 bytes, a contents field out of its range, or "
@@ -48,10 +49,22 @@ static void test_refusals(void)
                 marker_refusal_words(refusal));
 }
 
+static void test_rows(void)
+{
+    check_words("nothing is wrong", marker_type_row_words(MARKER_NO_ROW));
+    check_words("it is missing, or not its own parent", marker_type_row_words(0));
+    check_words("its parent is not row 0", marker_type_row_words(1));
+    for (size_t row = 2; row < MARKER_MOST_TYPES; row++) {
+        check_words("its parent is not an earlier row", marker_type_row_words(row));
+    }
+    check_words("a table of types has at most 200 rows", marker_type_row_words(MARKER_MOST_TYPES));
+}
+
 void test_words(void)
 {
     test_reasons();
     test_refusals();
+    test_rows();
     check_words("nothing is wrong", marker_fault_words(MARKER_FAULT_NONE));
     check_words("the buffer is too short", marker_fault_words(MARKER_FAULT_ROOM));
     check_words("the bytes to copy are no tree", marker_fault_words(MARKER_FAULT_COPY));

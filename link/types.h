@@ -1,7 +1,8 @@
 /*
- * types.h: the built-in types, their numbers and their names. marker.h includes
- * it. Number and name of each stand here once in C; link/check-names holds them
- * to crates/types and to docs/KEY.md, 'Type verdicts'.
+ * types.h: the built-in types, their numbers, names and parents, and which row of a
+ * table of types is out of order. marker.h includes it. Number, name and parent of
+ * each type stand here once in C; link/check-names holds them to crates/types and to
+ * docs/KEY.md, 'Type verdicts'.
  */
 #ifndef MARKER_TYPES_H
 #define MARKER_TYPES_H
@@ -74,6 +75,19 @@ enum marker_type {
     MARKER_NO_TYPE = 255   /* a byte that is no type's number: refused with 17 */
 };
 
+#define MARKER_MOST_TYPES 200  /* the rows of a table of types, at most */
+
+/* The built-in list as a table of types: the parent of each type, in the order of
+ * their numbers. With it marker_type_derivation_ok_by and marker_fill_types_by answer
+ * as the functions without a table do. A table with further types may start with it. */
+static const uint8_t marker_built_in_parents[MARKER_BUILT_IN_TYPES] = {
+    0,  0,  1,  1,  1,  1,  1,  1,  1,  1,  /* anyType to time */
+    1,  1,  1,  1,  1,  1,  1,  1,  1,  1,  /* date to QName */
+    1,  1,  1,  1,  1,  2,  25, 26, 26, 26, /* NOTATION to Name */
+    29, 30, 30, 30, 4,  34, 34, 34, 35, 37, /* NCName to int */
+    39, 40, 36, 36, 42, 44, 45, 8,  7,  7,  /* short to yearMonthDuration */
+};
+
 /* The name of a type. Any other number is said to be none. The name lasts as
  * long as the program. */
 static inline const char *marker_type_name(uint32_t type)
@@ -100,6 +114,43 @@ static inline uint8_t marker_type_number(const char *name)
         }
     }
     return MARKER_NO_TYPE;
+}
+
+/* What marker_type_table_fault returns where no row is out of order. */
+#define MARKER_NO_ROW SIZE_MAX
+
+/* The first row of a table of types that is out of order, for whoever has to mend
+ * it: row 0 where it is missing or not its own parent, a later row whose parent is
+ * not an earlier one, or row MARKER_MOST_TYPES, which is one too many. Or
+ * MARKER_NO_ROW, exactly where there is no refusal 18. It is tested
+ * (test_type_tables.c), not proved; of `parents` is asked what marker.h asks of a
+ * slice. */
+static inline size_t marker_type_table_fault(const uint8_t *parents, size_t parents_len)
+{
+    if (parents_len == 0 || parents[0] != 0) {
+        return 0;
+    }
+    for (size_t row = 1; row < parents_len; row++) {
+        if (row == MARKER_MOST_TYPES || parents[row] >= row) {
+            return row;
+        }
+    }
+    return MARKER_NO_ROW;
+}
+
+/* What is wrong with the row that marker_type_table_fault returned, to stand after
+ * its number. The words last as long as the program. */
+static inline const char *marker_type_row_words(size_t row)
+{
+    if (row == MARKER_NO_ROW) {
+        return "nothing is wrong";
+    }
+    if (row >= MARKER_MOST_TYPES) {
+        return "a table of types has at most 200 rows";
+    }
+    return row == 0 ? "it is missing, or not its own parent"
+        : row == 1  ? "its parent is not row 0"
+                    : "its parent is not an earlier row";
 }
 
 #ifdef __cplusplus

@@ -60,8 +60,8 @@ extern "C" {
          "element, sequence or choice: the base maximum is 0 (second reading, which no " \
          "mark shows)")
 
-/* Why a sheet, a tree, a chain or types are refused: EACH(number, name, words). A
- * tree alone, or of a chain, is refused as a derived tree is. */
+/* Why a sheet, a tree, a chain, types or a table of types are refused: EACH(number,
+ * name, words). A tree alone, or of a chain, is refused as a derived tree is. */
 #define MARKER_REFUSALS(EACH) \
     EACH(1, MARKER_REFUSAL_CONTENTS, \
          "the caller's mistake: sheet under 8 bytes, a contents field out of its range, or " \
@@ -104,8 +104,11 @@ extern "C" {
     EACH(16, MARKER_REFUSAL_LIMIT, \
          "the examiner's mistake: joined tree over 1000 records or depth 12") \
     EACH(17, MARKER_REFUSAL_TYPE_NUMBER, \
-         "the examiner's mistake: a type number that the list does not have, or not one for " \
-         "each leaf")
+         "the examiner's mistake: a type number that the list or the table of types does " \
+         "not have, or not one for each leaf") \
+    EACH(18, MARKER_REFUSAL_TYPE_TABLE, \
+         "the examiner's mistake: a table of types of 0 or over 200 rows, or with a row " \
+         "whose parent is out of order")
 
 /* What the lists are used with: an enum's line, and a switch's. */
 #define MARKER_NUMBERED(number, name, words) name = number,
