@@ -10,8 +10,8 @@ import marker
 import treewriters
 from files import UNUSABLE, WRONG, Stop
 from notation import tree_text
-from proved import FILL, ITEM, JOIN, TIDY, NoAnswer
-from refusals import Refused
+from proved import FILL_BY, ITEM, JOIN, TIDY, NoAnswer
+from refusals import CONTENTS, TYPE_TABLE, Refused
 from tidying import emptiable, tidy
 from total import total
 
@@ -44,10 +44,11 @@ def same_tree(paper, what, program, here, ask, without="none"):
     return same(what, program, here, ask, words)
 
 
-def filled(sheet, types):
+def filled(sheet, types, table):
     """The sheet with its second table filled, byte for byte as here."""
-    here = filling.fill(sheet, types)
-    same("filled sheet", FILL, layout.encode(here), lambda: filler.fill(sheet, types), sheet_words)
+    here = filling.fill(sheet, types, table)
+    same("filled sheet", filler.program_for(table), layout.encode(here),
+         lambda: filler.fill(sheet, types, table), sheet_words)
     return here
 
 
@@ -75,6 +76,25 @@ def same(what, program, here, ask, words):
     if there != here:
         raise differ(there, words(there, here))
     return there
+
+
+def type_table(rows, is_refused):
+    """Holds to the program whether it refuses a table of types in bytes. No sheet
+    stands after the table, so one that is accepted is refused by the contents."""
+    def words(number):
+        known = {CONTENTS: "accepted", None: "taken for a sheet"}
+        return known.get(number, f"refused {number}")
+
+    here, there = TYPE_TABLE if is_refused else CONTENTS, None
+    try:
+        FILL_BY.written(layout.encode_filling_by(rows[:layout.MOST_COUNT], [], b""))
+    except NoAnswer as none:
+        raise Stop(UNUSABLE, f"no answer about the table of types: {none}") from none
+    except Refused as refused:
+        there = refused.number
+    if here != there:
+        raise Stop(WRONG, f"the table of types is {words(here)} by this aid, {words(there)} by "
+                   f"{FILL_BY.called}")
 
 
 def description(tree):

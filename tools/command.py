@@ -11,6 +11,7 @@ import marker
 import printed
 import refusals
 import trees
+import typelist
 from faults import PaperError
 from files import (
     FINE, STANDARD, UNUSABLE, WRONG, Stop, argument, content, is_text, put_bytes, put_text, shown,
@@ -127,4 +128,9 @@ USES_OF = {
     "tidy": (trees.tidy, [ONE_FILE]),
     "item": (trees.item, [("k", {"metavar": "K", "type": item_number,
                                  "help": "the item's number, from 0"}), ONE_FILE]),
+    "types": (typelist.types, [ONE_FILE, ("-o", {
+        "dest": "output", "metavar": "TABLE",
+        "help": "a file for the table in bytes, a byte for each row, in place of the list"}),
+        ("--bytes", {"action": "store_true",
+                     "help": "the file is such a table in bytes, not a paper"})]),
 }

@@ -5,16 +5,18 @@ from typing import FrozenSet, List, NamedTuple, Optional, Tuple
 
 import chain
 import filling
+import typerows
 from faults import PaperError, Token
-from hints import SEVERAL, VERDICT, VERDICT_WORDS, type_missing
+from hints import ROW_LINE, SEVERAL, TREES_FIRST, VERDICT, VERDICT_WORDS, type_missing
 from judgement import Subject
 from notation import LeafNames, TreeReader, leaf_kind
-from scanner import Scanner
+from scanner import OPENING, Scanner
 from sheet import UNDECIDED, Kind, Leaf, Sheet, Tree, usual_leaf, usual_table
 from statements import (
-    ElementType, LeafList, NameNumber, ProcessContents, Verdicts, read_statement, scanned,
+    DECLARES, ElementType, LeafList, NameNumber, ProcessContents, Verdicts, declares_rows,
+    looks_like_trees, read_statement, scanned,
 )
-from typenames import ANY_TYPE
+from typenames import ANY_TYPE, TypeTable
 
 # The leaf of a paper whose trees have none: a sheet has at least one.
 ONLY_LEAF = "a"
@@ -39,6 +41,8 @@ class Paper(NamedTuple):
     # A type number for each leaf, 0 where none is read; None where no line sets a
     # type.
     types: Optional[List[int]]
+    # The table of types that these are numbers of.
+    table: TypeTable
 
     def subject(self, join, fill=filling.fill):
         """What is marked: its base joined so where it is a chain, and its second
@@ -49,7 +53,8 @@ class Paper(NamedTuple):
         subject = Subject(sheet, self.names, self.is_set, len(levels) > 1)
         if self.types is None:
             return subject
-        return subject._replace(sheet=fill(sheet, self.types), types=self.types,
+        return subject._replace(sheet=fill(sheet, self.types, self.table), types=self.types,
+                                table=self.table,
                                 filled=frozenset(filling.undecided_elements(sheet)))
 
 
@@ -64,14 +69,15 @@ def read(text, alone=False):
     PaperError at the first fault."""
     lines = text.split("\n")
     scanners = [found for found in scanned(lines) if isinstance(found, Scanner)]
+    wanted = f"a chain, or {TWO_TREES}" if alone else TWO_TREES
     if not scanners:
-        end = Token("", len(lines), 1)
-        wanted = f"a chain, or {TWO_TREES}" if alone else TWO_TREES
-        raise PaperError(end, wanted, "the end of the paper")
+        raise PaperError(Token("", len(lines), 1), wanted, "the end of the paper")
+    if declares_rows(scanners[0]):
+        raise PaperError(scanners[0].token, wanted, hint=TREES_FIRST)
     names = LeafNames()
     derived, base = read_trees(scanners[0], names, alone)
-    statements = [statement_of(scanner) for scanner in scanners[1:]]
-    draft = Draft(leaf_order(statements, names))
+    table, statements = read_statements(scanners[1:])
+    draft = Draft(leaf_order(statements, names), table)
     for statement in statements:
         draft.apply(statement)
     types = draft.left_to_types(statements)
@@ -79,18 +85,28 @@ def read(text, alone=False):
     base = base._replace(levels=[renumbered(tree, order) for tree in base.levels])
     is_set = frozenset(key for key in draft.set_by if key[0] in TABLES)
     return Paper(list(draft.numbers), draft.leaves, draft.first, draft.second,
-                 renumbered(derived, order), base, is_set, types)
+                 renumbered(derived, order), base, is_set, types, table)
 
 
-def statement_of(scanner):
-    """A statement after the trees. Without ':' it is none, but looks like trees,
-    or like a verdict."""
+def read_statements(scanners):
+    """The table of types, and the statements after the trees. The table's rows are
+    read before all else, so that their lines may stand anywhere."""
+    rows = [scanner for scanner in scanners if declares_rows(scanner)]
+    table = typerows.table_of(rows)
+    return table, [statement_of(scanner, table) for scanner in scanners if scanner not in rows]
+
+
+def statement_of(scanner, table):
+    """A statement after the trees that declares no rows. What looks like rows or
+    trees is none, or a verdict without its ':'."""
     try:
-        return read_statement(scanner)
+        return read_statement(scanner, table)
     except PaperError as error:
-        if not scanner.has(":"):
+        if looks_like_trees(scanner):
             a_verdict = any(map(scanner.has, VERDICT_WORDS))
             error.hint = VERDICT if a_verdict else SEVERAL
+        if scanner.has(DECLARES) and not scanner.has(OPENING):
+            error.hint = ROW_LINE
         raise
 
 
@@ -142,7 +158,8 @@ def second_time(token, expected, line):
 class Draft:
     """Leaves and tables, and which line has set what."""
 
-    def __init__(self, order):
+    def __init__(self, order, table):
+        self.table = table
         self.numbers = {name: number for number, name in enumerate(order)}
         self.leaves = [usual_leaf(leaf_kind(name), number) for number, name in enumerate(order)]
         self.first = usual_table(len(order))
@@ -218,7 +235,7 @@ class Draft:
             if self.number(token) not in self.types:
                 raise PaperError(
                     token, f"a type for '{token.text}' too: types decide every undecided pair of "
-                    "elements in the second table", "none", type_missing(token.text))
+                    "elements in the second table", "none", type_missing(token.text, self.table))
 
     def claim(self, token, key, once):
         """Notes that the token's line sets something, which may be set once."""

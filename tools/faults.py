@@ -14,11 +14,14 @@ class Token(NamedTuple):
     line: int
     column: int
 
+    @property
+    def cut(self):
+        """The text, not too long."""
+        more = "..." if len(self.text) > LONGEST_WORD else ""
+        return f"{printable(self.text[:LONGEST_WORD])}{more}"
+
     def shown(self):
-        if not self.text:
-            return "the end of the line"
-        cut = "..." if len(self.text) > LONGEST_WORD else ""
-        return f"'{printable(self.text[:LONGEST_WORD])}{cut}'"
+        return f"'{self.cut}'" if self.text else "the end of the line"
 
 
 class PaperError(Exception):
@@ -30,6 +33,10 @@ class PaperError(Exception):
         self.column = token.column
         # What to write instead, where it can be guessed.
         self.hint = hint
+
+    def said_of(self, what):
+        """Says first what the fault is one of."""
+        self.args = (f"{what}: {self}",)
 
     def report(self, file, text):
         """The message, the line, a caret below the column, and the hint."""

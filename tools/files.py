@@ -43,7 +43,8 @@ def text_of(name):
         raise Stop(WRONG, f"{shown(name)}: expected text in UTF-8, found UTF-16: save it as UTF-8")
     if NO_TEXT in data:
         raise Stop(WRONG, f"{shown(name)}: expected a paper as text, found bytes: "
-                   f"if they are a sheet's, use `tools/paper read{argument(name)}`")
+                   f"if they are a sheet's, use `tools/paper read{argument(name)}`; if they are "
+                   f"a table of types, `tools/paper types --bytes{argument(name)}`")
     try:
         text = data.decode("utf-8-sig")
         return text if "\n" in text else text.replace("\r", "\n")

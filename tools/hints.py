@@ -1,9 +1,8 @@
 """Hints for mistakes in a paper that are easily made."""
 
-from typenames import MOST_TYPE, NUMBERS
+from typenames import BUILTIN
 
 A_LEAF = "a leaf (a letter such as a, w or a1)"
-A_TYPE = f"a built-in type, by its name or by its number from 0 to {MOST_TYPE}"
 END = "the end of the line"
 
 PAIR_FIRST = "a group's pair stands before its items, as in S(0,1)[a,b]"
@@ -31,11 +30,13 @@ COMMAS = "commas part items, as in S[a,b]"
 TYPE_PREFIXES = ("xs", "xsd")
 NO_PREFIX = "a type's name stands without a prefix, as in a : type integer"
 OWN_TYPE = (
-    "only the types that XML Schema has built in stand here; of others a line sets the verdict, as "
-    "a | b : second ok"
+    "only the types that XML Schema has built in stand here, unless lines such as "
+    "rating < anySimpleType declare others; or a line sets the verdict, as a | b : second ok"
 )
-TYPE_FIRST = "a type stands after the word type, as in a : type integer"
-CASELESS = {name.lower(): name for name in NUMBERS}
+ROW_LINE = (
+    "a line with < declares rows of the paper's own table of types: their names and one parent, "
+    "as in GM, IM < title"
+)
 # What a sign in place of another stands for, most likely.
 INSTEAD = {";": COMMAS, "*": HOW_OFTEN, "?": HOW_OFTEN}
 
@@ -56,11 +57,6 @@ def hint_at(token, before, wanted):
         return COMMAS
     if wanted[-1] in ("'|'", END):
         return hint_after_trees(token, wanted)
-    if A_TYPE in wanted:
-        return hint_for_type(token)
-    # `Name` is more likely `name` with a capital.
-    if "'type'" in wanted and token.text in NUMBERS and token.text != "Name":
-        return TYPE_FIRST
     return hint_for_leaf(token) if A_LEAF in wanted else INSTEAD.get(token.text)
 
 
@@ -88,17 +84,40 @@ def hint_for_leaf(token):
     return None if word[1:].isdigit() else LONG_NAME
 
 
-def hint_for_type(token):
-    """Where a built-in type is wanted."""
-    word = token.text.lower()
-    if word in TYPE_PREFIXES:
+def hint_for_type(token, table):
+    """Where a type of this table is wanted."""
+    word = token.text
+    if word.lower() in TYPE_PREFIXES:
         return NO_PREFIX
-    if word in CASELESS:
-        return f"capitals and small letters count in a type's name, here {CASELESS[word]}"
-    return OWN_TYPE if word[:1].isalpha() else None
+    if not word[:1].isalpha():
+        return None
+    return hint_for_name(word, table.names, table.declared)
 
 
-def type_missing(name):
+def hint_for_name(word, names, declared=True):
+    """Where a word is none of the names of a table that a paper declares, or of the
+    built-in list."""
+    near = next((name for name in names if name.lower() == word.lower()), None)
+    if near:
+        return f"capitals and small letters count in a type's name, here {near}"
+    if not declared:
+        return OWN_TYPE
+    line = f"a line declares it, as {word} < anySimpleType"
+    if word not in BUILTIN.numbers:
+        return line
+    return f"the paper's own table of types is in the place of the built-in list: {line}"
+
+
+def type_first(token, table):
+    """Where a type's name stands, and the word type is wanted."""
+    # `Name` is more likely `name` with a capital.
+    if token.text not in table.numbers or token.text == "Name":
+        return None
+    return f"a type stands after the word type, as in a : type {token.text}"
+
+
+def type_missing(name, table):
     """Where an element has no type, and needs one."""
-    return (f"give it one, as {name} : type decimal, or {name} : type anyType where the schema has "
+    some = table.names[-1] if table.declared else "decimal"
+    return (f"give it one, as {name} : type {some}, or {name} : type anyType where the schema has "
             "none for it")

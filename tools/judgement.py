@@ -3,12 +3,13 @@ particles, and what is below it. This is a reading of the rules apart from the
 proved one: it gives reasons in words, and the mark that counts is the marking
 program's."""
 
-from typing import List, NamedTuple, Optional
+from typing import List, NamedTuple, Optional, Tuple
 
 import filling
 from marker import Mark
 from notation import tree_text
 from sheet import OK, UNDECIDED, Kind, Sheet, Tree
+from typenames import BUILTIN, TypeTable
 
 PASSES = Mark("passes", None)
 OPEN = Mark("undecided", None)
@@ -36,8 +37,8 @@ class Outcome(NamedTuple):
     decides: Optional[int] = None
     # The rule by which that step makes it undecided.
     carried: str = ""
-    # The rule by which types give the verdict.
-    by: str = ""
+    # The rules by which types give the verdict.
+    by: Tuple[str, ...] = ()
 
 
 class Node(NamedTuple):
@@ -86,9 +87,10 @@ class Subject(NamedTuple):
     is_set: frozenset
     # Whether the base was a chain.
     is_joined: bool = False
-    # A type number for each leaf, and which verdicts of the second table follow
-    # from two of these, as (derived leaf, base leaf).
+    # A type number for each leaf, in which table, and which verdicts of the second
+    # table follow from two of these, as (derived leaf, base leaf).
     types: List[int] = []
+    table: TypeTable = BUILTIN
     filled: frozenset = frozenset()
 
     def text(self, tree, longest=LONGEST):
@@ -103,7 +105,7 @@ class Subject(NamedTuple):
         said = f"{self.names[derived]} against {self.names[base]} in the {which} table is {word}"
         because = self.because(derived, base) if which == "second" else ""
         if because:
-            return Outcome(mark_of(number), f"{said}: {because}", by="V2")
+            return Outcome(mark_of(number), f"{said}: {because}", by=self.table.rules)
         default = "" if (which, derived, base) in self.is_set else ", by default"
         return Outcome(mark_of(number), f"{said}{default}")
 
@@ -112,7 +114,7 @@ class Subject(NamedTuple):
         give none."""
         if (derived, base) not in self.filled:
             return ""
-        return filling.in_words(self.types[derived], self.types[base])
+        return filling.in_words(self.types[derived], self.types[base], self.table)
 
 
 def mark_of(verdict):

@@ -15,11 +15,13 @@ RECORD = struct.Struct("<BBHB3sII")
 CHAIN = struct.Struct("<B")
 LEVEL = struct.Struct("<H")
 # The length of a sheet among many, the number of an item before its tree, and how
-# many type numbers stand before a sheet, as `marker --many`, `item` and `fill`
-# read them.
+# many type numbers, or rows of a table of types, stand before a sheet, as
+# `marker --many`, `item`, `fill` and `fill_by` read them.
 LENGTH = struct.Struct("<H")
 ITEM = struct.Struct("<H")
 TYPES = struct.Struct("<H")
+# The greatest number in two bytes.
+MOST_COUNT = 65535
 
 
 class Contents(NamedTuple):
@@ -139,3 +141,9 @@ def encode_item(k, tree):
 def encode_filling(types, sheet):
     """What `fill` reads: the number of type numbers, these, and a sheet's bytes."""
     return TYPES.pack(len(types)) + bytes(types) + sheet
+
+
+def encode_filling_by(parents, types, sheet):
+    """What `fill_by` reads: the number of rows of a table of types, these, and what
+    `fill` reads."""
+    return TYPES.pack(len(parents)) + bytes(parents) + encode_filling(types, sheet)

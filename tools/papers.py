@@ -6,7 +6,7 @@ from pathlib import Path
 from typing import NamedTuple
 
 from files import STANDARD, shown, text_of
-from statements import NameLine, scanned
+from statements import NameLine, looks_like_trees, scanned
 
 SUFFIX = ".paper"
 
@@ -37,15 +37,15 @@ class Entry(NamedTuple):
 
 
 def split(text):
-    """The papers of a text, at least one. A statement without ':', that is two
-    trees, begins another paper where a blank line stands before it."""
+    """The papers of a text, at least one. Two trees begin another paper where a
+    blank line stands before them."""
     lines = text.split("\n")
     # Of each paper its name and its first statement's line; of the last one
     # also whether it has its trees.
     begun, has_trees, last = [], False, 0
     for statement in scanned(lines):
         named = isinstance(statement, NameLine)
-        trees = not named and not statement.has(":")
+        trees = not named and looks_like_trees(statement)
         apart = any(not line.strip() for line in lines[last:statement.line - 1])
         if named or not begun or (trees and has_trees and apart):
             begun.append((statement.name if named else "", statement.line))

@@ -82,4 +82,5 @@ DESCRIBE = Program("describe", "DESCRIBE", "the describing program", "descriptio
 TIDY = Program("tidy", "TIDY", "the tidying program", "tree")
 ITEM = Program("item", "ITEM", "the program for items", "tree")
 FILL = Program("fill", "FILL", "the filling program", "sheet")
-PROGRAMS = (MARKER, JOIN, DESCRIBE, TIDY, ITEM, FILL)
+FILL_BY = Program("fill_by", "FILL_BY", "the program for filling by a table of types", "sheet")
+PROGRAMS = (MARKER, JOIN, DESCRIBE, TIDY, ITEM, FILL, FILL_BY)

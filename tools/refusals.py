@@ -1,11 +1,13 @@
 """Reads the bytes of a sheet, or finds document 01's first refusal and the
-place that shows it. The order is 1, 3, 4, base tree, derived tree."""
+place that shows it. The order is 1, 3, 4, base tree, derived tree. Reads the bytes
+of a table of types likewise."""
 
 import layout
 from notation import leaf_names, unfinished_text
 from sheet import (
     MOST_DEPTH, MOST_LEAVES, MOST_RECORDS, PROCESS_CONTENTS, Kind, Sheet, Tree, is_verdict,
 )
+from typenames import GIVEN, MOST_TYPES
 
 CONTENTS = 1
 LEAF = 3
@@ -14,6 +16,7 @@ VERDICT = 4
 BASE = 5
 DERIVED = 10
 FIELDS, PAIR, ALL_GROUP, DEPTH, COUNTS = range(5)
+TYPE_TABLE = 18
 
 # So many characters of a tree are shown before the place of its fault.
 MOST_SHOWN = 60
@@ -50,6 +53,23 @@ def read_tree(data, leaves):
     if records > MOST_RECORDS:
         raise Refused(DERIVED + COUNTS, f"{records} records, and a tree has at most {MOST_RECORDS}")
     return TreeCheck(data, 0, len(data), leaves, DERIVED).whole()
+
+
+def read_type_table(data):
+    """The parent's row of each row of a table of types in bytes that are accepted."""
+    def check(good, place):
+        if not good:
+            raise Refused(TYPE_TABLE, place)
+
+    check(data, "no rows")
+    check(len(data) <= MOST_TYPES, f"{len(data)} rows, at most {MOST_TYPES}")
+    for row, parent in enumerate(data):
+        if row < len(GIVEN):
+            must, good = f"row {GIVEN[row][1]}", parent == GIVEN[row][1]
+        else:
+            must, good = "an earlier row", parent < row
+        check(good, f"row {row}: its parent must be {must}, found {parent}")
+    return list(data)
 
 
 def checked_contents(data):

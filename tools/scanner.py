@@ -11,7 +11,8 @@ from hints import END, hint_at
 
 # A word (a letter with its number, a keyword, or a type's name), a number, a sign;
 # any other character is a token by itself, which nothing expects.
-TOKEN = re.compile(r"[A-Za-z][A-Za-z0-9]*|[0-9]+|\S")
+WORD = r"[A-Za-z][A-Za-z0-9_.-]*"
+TOKEN = re.compile(rf"{WORD}|[0-9]+|\S")
 COMMENT = "#"
 OPENING, CLOSING = "[", "]"
 # Signs between trees: a statement does not end in one, and none begins with one.
@@ -107,13 +108,13 @@ class Scanner:
         self.take()
         return number
 
-    def fail(self, *more):
+    def fail(self, *more, hint=None):
         """The present token is none of those tried, and not what ``more`` says."""
         wanted = self.tried + list(more)
         *early, last = wanted
         expected = f"{', '.join(early)} or {last}" if early else last
         before = self.before if self.at else None
-        raise PaperError(self.token, expected, hint=hint_at(self.token, before, wanted))
+        raise PaperError(self.token, expected, hint=hint or hint_at(self.token, before, wanted))
 
 
 def as_number(text):

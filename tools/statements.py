@@ -4,24 +4,25 @@
     leaves : a, b, w          every leaf, in the order of the leaf numbers
     a, b : name 7             local name number
     w : lax                   process contents
-    a, b : type integer       built-in type, by name or number
+    a, b : type integer       type, by name or number
     a | b, c : undecided      verdict in both tables, or first ..., second ...
 
-What they mean for the sheet is the matter of draft.py."""
+What they mean for the sheet is the matter of draft.py; a line with < declares rows
+of a table of types, and is the matter of typerows.py."""
 
 import re
 from typing import List, NamedTuple, Optional, Union
 
-from faults import Token
-from hints import A_LEAF, A_TYPE
+from faults import PaperError, Token
+from hints import A_LEAF, hint_for_type, type_first
 from notation import leaf_kind
 from scanner import CLOSING, COMMENT, OPENING, Scanner, as_number
 from sheet import MOST_NAME, OK, PROCESS_CONTENTS, SET_REASONS, UNDECIDED, is_verdict
-from typenames import MOST_TYPE, NUMBERS
 
 VERDICT_WORDS = {"ok": OK, "undecided": UNDECIDED}
 A_REASON = f"a reason from {SET_REASONS[0]} to {SET_REASONS[-1]}"
 NAME_LINE = re.compile(r"\s*paper\s*:([^#]*)")
+DECLARES = "<"
 
 
 class NameLine(NamedTuple):
@@ -99,9 +100,24 @@ def begins_paper(line, above):
     return False
 
 
-def read_statement(scanner) -> Statement:
+def declares_rows(scanner):
+    """Whether a statement declares rows of a table of types: it has the sign, and
+    none of trees or verdicts."""
+    return scanner.has(DECLARES) and not (scanner.has("|") or scanner.has(OPENING))
+
+
+def looks_like_trees(scanner):
+    """Whether a statement has no sign of those after the trees."""
+    return not scanner.has(":") and not declares_rows(scanner)
+
+
+def read_statement(scanner, table) -> Statement:
+    """A statement that declares no rows; its types are those of the table."""
     start = scanner.token
-    statement = leaf_list(scanner, start) if scanner.skip("leaves") else about_leaves(scanner)
+    if scanner.skip("leaves"):
+        statement = leaf_list(scanner, start)
+    else:
+        statement = about_leaves(scanner, table)
     scanner.expect_end()
     return statement
 
@@ -112,7 +128,7 @@ def leaf_list(scanner, word):
     return LeafList(word, leaves, scanner.token)
 
 
-def about_leaves(scanner):
+def about_leaves(scanner, table):
     leaves = read_leaves(scanner)
     if scanner.skip("|"):
         base = read_leaves(scanner)
@@ -122,11 +138,11 @@ def about_leaves(scanner):
     if scanner.skip("name"):
         return NameNumber(leaves, scanner.number(MOST_NAME))
     if scanner.skip("type"):
-        return ElementType(leaves, type_number(scanner))
+        return ElementType(leaves, type_number(scanner, table))
     for process, word in enumerate(PROCESS_CONTENTS):
         if scanner.skip(word):
             return ProcessContents(leaves, process)
-    return scanner.fail()
+    return scanner.fail(hint=type_first(scanner.token, table))
 
 
 def read_leaves(scanner):
@@ -139,15 +155,17 @@ def read_leaves(scanner):
             return leaves
 
 
-def type_number(scanner):
-    """A built-in type's number, which its name may stand for."""
+def type_number(scanner, table):
+    """A type's number in the table, which its name may stand for."""
     word = scanner.token.text
     if as_number(word) is not None:
-        return scanner.number(MOST_TYPE)
-    if word not in NUMBERS:
-        scanner.fail(A_TYPE)
+        return scanner.number(table.most)
+    if word not in table.numbers:
+        what = "a row of the paper's table of types" if table.declared else "a built-in type"
+        wanted = f"{what}, by its name or by its number from 0 to {table.most}"
+        raise PaperError(scanner.token, wanted, hint=hint_for_type(scanner.token, table))
     scanner.take()
-    return NUMBERS[word]
+    return table.numbers[word]
 
 
 def verdicts(scanner):

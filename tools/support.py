@@ -37,6 +37,7 @@ needs_describer = needs(proved.DESCRIBE)
 needs_tidier = needs(proved.TIDY)
 needs_items = needs(proved.ITEM)
 needs_filler = needs(proved.FILL)
+needs_table_filler = needs(proved.FILL_BY)
 
 
 def needs_tree_programs(test):
@@ -227,10 +228,11 @@ def spaced(rng, line):
 
 
 def run(*words, data=b"", program=None, joiner=None, describer=None, tidier=None, items=None,
-        filler=None, stdout=subprocess.PIPE):
+        filler=None, table_filler=None, stdout=subprocess.PIPE):
     environment = dict(os.environ)
     for variable, path in (("MARKER", program), ("JOIN", joiner), ("DESCRIBE", describer),
-                           ("TIDY", tidier), ("ITEM", items), ("FILL", filler)):
+                           ("TIDY", tidier), ("ITEM", items), ("FILL", filler),
+                           ("FILL_BY", table_filler)):
         if path:
             environment[variable] = str(path)
     return subprocess.run([str(PAPER), *map(str, words)], input=data, stdout=stdout,

@@ -247,10 +247,12 @@ class Scribbles(unittest.TestCase):
                     refusals.read(layout.encode(parse(text)))
                     read += 1
                 except PaperError as error:
-                    lines = text.split("\n")
-                    self.assertIn(error.line, range(1, len(lines) + 1))
-                    self.assertIn(error.column, range(1, len(lines[error.line - 1]) + 2))
+                    self.check_fault(error, text.split("\n"))
         self.assertIn(read, range(self.READ, self.COUNT))
+
+    def check_fault(self, error, lines):
+        self.assertIn(error.line, range(1, len(lines) + 1))
+        self.assertIn(error.column, range(1, len(lines[error.line - 1]) + 2))
 
 
 if __name__ == "__main__":

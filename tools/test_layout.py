@@ -30,6 +30,8 @@ class Bytes(unittest.TestCase):
     def test_types(self):
         self.assertEqual(list(layout.encode_filling([34, 0, 4], b"sheet")),
                          [3, 0, 34, 0, 4, *b"sheet"])
+        self.assertEqual(list(layout.encode_filling_by([0, 0, 1, 2], [3, 0], b"sheet")),
+                         [4, 0, 0, 0, 1, 2, 2, 0, 3, 0, *b"sheet"])
 
     def test_counts_of_two_bytes(self):
         tree = layout.encode_tree(row(259))

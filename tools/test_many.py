@@ -18,7 +18,7 @@ from printed import paper_text
 from proved import MARKER, PROGRAMS
 from support import (
     ROOT, SAMPLES, Command, largest_sheet, near_sheet, needs_filler, needs_joiner, needs_marker,
-    random_sheet, run,
+    needs_table_filler, random_sheet, run,
 )
 
 PASSES = "passes: the derived tree restricts the base tree"
@@ -38,6 +38,10 @@ PARTED = [
     ("a | b\n\npaper : Bo\n\nleaves : a\nc | d", [("", 1, "a | b"), ("Bo", 3, "leaves : a\nc | d")]),
     ("a | S[b,\n\nc]\n\nc\n  | d", [("", 1, "a | S[b,\n\nc]"), ("", 5, "c\n  | d")]),
     ("a | b\nc | d\n\ne | f", [("", 1, "a | b\nc | d"), ("", 4, "e | f")]),
+    # Rows of a table of types are no trees, and trees with a wrong sign are none.
+    ("a | b\n\nGM < title\n\nc | d", [("", 1, "a | b\n\nGM < title"), ("", 5, "c | d")]),
+    ("a | b\n\nS[a<b] | d\n\nS[a<b]\n", [("", 1, "a | b"), ("", 3, "S[a<b] | d"),
+                                            ("", 5, "S[a<b]")]),
     # A forgotten bracket, or a sign at the end, does not take the next papers along.
     ("paper : Anna\nS[a,b | S[a,b]\n\npaper : Bo\nS[a] | S[a]", [
         ("Anna", 1, "S[a,b | S[a,b]"), ("Bo", 4, "S[a] | S[a]")]),
@@ -216,9 +220,10 @@ class Marking(Command):
 
     @needs_joiner
     @needs_filler
+    @needs_table_filler
     def test_samples(self):
         done = run("mark", SAMPLES)
-        count = b"\n7 papers: 4 pass, 2 fail, 1 undecided\n"
+        count = b"\n8 papers: 5 pass, 2 fail, 1 undecided\n"
         self.assertEqual((done.returncode, done.stdout[-len(count):]), (0, count))
 
 
@@ -237,10 +242,10 @@ class Packing(Command):
         folder = self.folder / "desk"
         done = self.pack(folder)
         self.assertEqual((done.returncode, done.stdout.decode()), (
-            0, f"pack: {folder}: its samples are 7 papers: 4 pass, 2 fail, 1 undecided\n"))
+            0, f"pack: {folder}: its samples are 8 papers: 5 pass, 2 fail, 1 undecided\n"))
         for words in (("total", "samples/report.paper"), ("tidy", "samples/entry.paper"),
                       ("item", "0", "samples/entry.paper"), ("why", "samples/rounds.paper"),
-                      ("why", "samples/types.paper")):
+                      ("why", "samples/types.paper"), ("why", "samples/titles.paper")):
             there, here = (
                 subprocess.run([root / "tools" / "paper", *words], cwd=root, check=False,
                                capture_output=True) for root in (folder, ROOT))

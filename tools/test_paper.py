@@ -12,7 +12,7 @@ from draft import parse
 from printed import paper_text
 from support import (
     ROOT, SAMPLES, Command, needs_describer, needs_filler, needs_joiner, needs_marker,
-    needs_tree_programs, random_paper, random_sheet, run,
+    needs_table_filler, needs_tree_programs, random_paper, random_sheet, run,
 )
 from usage import GRAMMAR, USES
 from words import NEVER_SHOWN, REASONS, REFUSALS, in_words
@@ -89,8 +89,9 @@ SAMPLE_MARKS = {
 }
 # Of papers whose base is a chain.
 CHAIN_MARKS = {"report": "passes"}
-# Of papers that have types.
+# Of papers that have types, and of papers that have their own table of types.
 TYPE_MARKS = {"types": "passes"}
+TABLE_MARKS = {"titles": "passes"}
 
 
 class Writing(Command):
@@ -203,7 +204,7 @@ class OtherVerbs(Command):
     """A sheet where a paper is expected, and the other way round."""
 
     def test_a_sheet_is_no_paper(self):
-        for use in ("mark", "why", "write", "join", "total", "emptiable", "tidy"):
+        for use in ("mark", "why", "write", "join", "total", "emptiable", "tidy", "types"):
             self.check(run(use, SMALLEST), 1, b"", f"use `tools/paper read {SMALLEST}`")
         self.check(run("mark", data=SMALLEST.read_bytes()), 1, b"", "use `tools/paper read`")
 
@@ -216,7 +217,7 @@ class OtherVerbs(Command):
 class Words(unittest.TestCase):
     def test_every_number_has_words(self):
         self.assertEqual(list(REASONS), list(range(101, 126)))
-        self.assertEqual(sorted(REFUSALS), list(range(1, 18)))
+        self.assertEqual(sorted(REFUSALS), list(range(1, 19)))
         for number in range(140, 153):
             self.assertEqual(in_words("fails", number), "a reason that the paper sets")
 
@@ -263,7 +264,7 @@ class Marks(Command):
                 self.assertEqual(done.stdout.decode().split(":")[0], mark, done.stderr)
 
     def test_samples(self):
-        self.assertEqual({*SAMPLE_MARKS, *CHAIN_MARKS, *TYPE_MARKS},
+        self.assertEqual({*SAMPLE_MARKS, *CHAIN_MARKS, *TYPE_MARKS, *TABLE_MARKS},
                          {file.stem for file in SAMPLES.glob("*.paper")})
         self.check_samples(SAMPLE_MARKS)
 
@@ -274,6 +275,10 @@ class Marks(Command):
     @needs_filler
     def test_samples_with_types(self):
         self.check_samples(TYPE_MARKS)
+
+    @needs_table_filler
+    def test_samples_with_tables_of_types(self):
+        self.check_samples(TABLE_MARKS)
 
     def test_longest(self):
         """The longest marking that we know (docs/BENCHMARK.md)."""
@@ -308,6 +313,7 @@ class Documents(unittest.TestCase):
     @needs_joiner
     @needs_describer
     @needs_filler
+    @needs_table_filler
     def test_the_first_page_says_what_happens(self):
         """What README.md says of the lines that its commands print."""
         page = (ROOT / "README.md").read_text(encoding="utf-8")
@@ -327,6 +333,7 @@ class Documents(unittest.TestCase):
     @needs_describer
     @needs_tree_programs
     @needs_filler
+    @needs_table_filler
     def test_the_readme_says_what_happens(self):
         """Each command after a $, and the output below it."""
         readme = README.read_text(encoding="utf-8")

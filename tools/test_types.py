@@ -15,7 +15,7 @@ from rules import Judge
 from sheet import SET_REASONS, UNDECIDED, Kind, usual_verdict
 from support import ROOT, FaultsCase, near_sheet, random_sheet
 from test_faults import END, ON_PAPER
-from typenames import BUILTIN_TYPES, NUMBERS
+from typenames import BUILTIN, BUILTIN_TYPES
 from why import Words, lines
 
 KEY = ROOT / "docs" / "KEY.md"
@@ -144,32 +144,35 @@ def random_types(rng, leaves):
     return [rng.randrange(256 if leaf.kind else 50) for leaf in leaves]
 
 
-def random_typed(seed):
-    """A paper of some types, every element of an undecided pair among them, and its
-    filled sheet; and how many verdicts the types decide in it."""
+def random_typed(seed, listed=BUILTIN.names, verdict=stated):
+    """A paper of some types of these names, every element of an undecided pair among
+    them, and its filled sheet by these verdicts; and how many the types decide in
+    it."""
     rng, sheet = random.Random(seed), near_sheet(seed)
     sheet = sheet._replace(second=[
         [usual_verdict(row, column) if rng.random() < 0.7 else verdict
          for column, verdict in enumerate(verdicts)] for row, verdicts in enumerate(sheet.second)])
     elements = [n for n, leaf in enumerate(sheet.leaves) if leaf.kind == Kind.ELEMENT]
     needed = {n for row, column in filling.undecided_elements(sheet) for n in (row, column)}
-    types = {n: rng.randrange(50) for n in elements if n in needed or rng.random() < 0.8}
+    types = {n: rng.randrange(len(listed)) for n in elements
+             if n in needed or rng.random() < 0.8}
     names = leaf_names(sheet.leaves)
-    said = [f"{names[n]} : type {rng.choice([t, BUILTIN_TYPES[t][0]])}\n" for n, t in types.items()]
+    said = [f"{names[n]} : type {rng.choice([t, listed[t]])}\n" for n, t in types.items()]
     second, count = [list(row) for row in sheet.second], 0
     for row in types:
         for column in types:
             # A printed paper sets what is not usual.
             if second[row][column] in (UNDECIDED, usual_verdict(row, column)):
-                second[row][column], count = stated(types[row], types[column]), count + 1
+                second[row][column], count = verdict(types[row], types[column]), count + 1
     return paper_text(sheet) + "".join(said), sheet._replace(second=second), count
 
 
 class List(unittest.TestCase):
     def test_names(self):
         self.assertEqual(len(BUILTIN_TYPES), 50)
-        self.assertEqual(set(NUMBERS), {*ABOVE_ALL, *(name for chain in CHAINS for name in chain)})
-        self.assertEqual(len({name.lower() for name in NUMBERS}), 50)
+        names = {*ABOVE_ALL, *(name for chain in CHAINS for name in chain)}
+        self.assertEqual(set(BUILTIN.numbers), names)
+        self.assertEqual(len({name.lower() for name in BUILTIN.numbers}), 50)
 
     def test_numbers(self):
         """The two above all; then those below anySimpleType; then the rest."""
@@ -193,7 +196,7 @@ class List(unittest.TestCase):
 
 class Reading(FaultsCase):
     def test_names_and_numbers(self):
-        for name, number in NUMBERS.items():
+        for name, number in BUILTIN.numbers.items():
             for said in (name, str(number), f"0{number}"):
                 self.assertEqual(read(f"a | b\nb : type {said}").types, [0, number])
 

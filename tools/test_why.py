@@ -13,7 +13,8 @@ from printed import paper_text
 from rules import Judge
 from sheet import SET_REASONS
 from support import (
-    ROOT, SAMPLES, Command, near_sheet, needs_filler, needs_joiner, needs_marker, random_sheet, run,
+    ROOT, SAMPLES, Command, near_sheet, needs_filler, needs_joiner, needs_marker,
+    needs_table_filler, random_sheet, run,
 )
 from test_paper import BY_REASON, EXAMPLES, MAY_NOT_OCCUR, NOT_SHOWN, SETTLED
 from tidying import tidy
@@ -299,6 +300,7 @@ class Uses(Command):
 
     @needs_joiner
     @needs_filler
+    @needs_table_filler
     def test_every_sample(self):
         for file in sorted(SAMPLES.glob("*.paper")):
             done = run("why", file)

@@ -1,7 +1,7 @@
-"""The built-in types of XML Schema (document 02 §6; docs/KEY.md, V1): each name
-with its parent's number, in the order of the numbers. `anyType` is its own
-parent; every other parent has a smaller number."""
+"""Tables of types: the built-in types of XML Schema (document 02 §6; docs/KEY.md,
+V1), and the form in which a paper has others in their place (document 02 §7; V5)."""
 
+# Each name with its parent's number, in the order of the numbers.
 BUILTIN_TYPES = (
     ("anyType", 0),
     ("anySimpleType", 0),
@@ -55,15 +55,40 @@ BUILTIN_TYPES = (
     ("yearMonthDuration", 7),
 )
 
-# Two numbers that the rules name.
+# Two numbers that the rules name: every table has them, by these names.
 ANY_TYPE, ANY_SIMPLE_TYPE = 0, 1
-MOST_TYPE = len(BUILTIN_TYPES) - 1
-NUMBERS = {name: number for number, (name, _) in enumerate(BUILTIN_TYPES)}
+GIVEN = BUILTIN_TYPES[:2]
+# So many rows a table has at most.
+MOST_TYPES = 200
 
 
-def type_name(number):
-    return BUILTIN_TYPES[number][0]
+class TypeTable:
+    """Types by their numbers, the rows: `anyType` is row 0 and its own parent,
+    `anySimpleType` is row 1, and every later row's parent is an earlier row."""
+
+    def __init__(self, rows, declared=False):
+        self.names = [name for name, _ in rows]
+        self.parents = [parent for _, parent in rows]
+        self.numbers = {name: number for number, name in enumerate(self.names)}
+        # Whether a paper declares it; otherwise it is the built-in list.
+        self.declared = declared
+
+    @property
+    def most(self):
+        """The greatest number."""
+        return len(self.names) - 1
+
+    @property
+    def rules(self):
+        """The rules of docs/KEY.md for a verdict by it."""
+        return ("V2", "V6") if self.declared else ("V2",)
+
+    def chain(self, number):
+        """A type and those above it, up to anyType."""
+        found = [number]
+        while found[-1] != ANY_TYPE:
+            found.append(self.parents[found[-1]])
+        return found
 
 
-def builtin_parent(number):
-    return BUILTIN_TYPES[number][1]
+BUILTIN = TypeTable(BUILTIN_TYPES)

@@ -55,15 +55,13 @@ def particles(subject, node):
 
 def rules(node):
     """The rule of the two kinds and, where they are others, that of the reason,
-    that of the verdict, and that by which an item makes it undecided."""
+    those of the verdict, and that by which an item makes it undecided."""
     found = [node.rule]
     if node.mark == OPEN and node.decisive:
         found.append(node.outcome.carried)
     elif not node.decisive and node.mark.number in REASONS:
         found.append(REASONS[node.mark.number][1])
-    if node.outcome.by:
-        found.append(node.outcome.by)
-    return list(dict.fromkeys(found))
+    return list(dict.fromkeys([*found, *node.outcome.by]))
 
 
 def reason(node):

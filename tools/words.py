@@ -63,7 +63,10 @@ REFUSALS = {
     4: (EXAMINER + "a verdict that is not 0, 1 or 140 to 152", "S3"),
     15: (CALLER + "chain of 0 or over 17 levels, or of a length unlike its counts", "L2"),
     16: (EXAMINER + "joined tree over 1000 records or depth 12", "L5"),
-    17: (EXAMINER + "a type number that the list does not have, or not one for each leaf", "V4"),
+    17: (EXAMINER + "a type number that the list or the table of types does not have, "
+         "or not one for each leaf", "V4, V6"),
+    18: (EXAMINER + "a table of types of 0 or over 200 rows, "
+         "or with a row whose parent is out of order", "V5"),
 }
 for place, (fault, rule) in enumerate(TREE_FAULTS):
     REFUSALS[5 + place] = (f"{EXAMINER}base tree, {fault}", f"S4, {rule}")
