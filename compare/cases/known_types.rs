@@ -114,12 +114,18 @@ fn sheet(leaves: &str, second: &str) -> Sheet {
 }
 
 /// A filling that comes about, by the second table before and after.
-fn fills(what: &'static str, leaves: &str, before: &str, types: &[u8], after: &str) -> Known {
+pub(crate) fn fills(
+    what: &'static str,
+    leaves: &str,
+    before: &str,
+    types: &[u8],
+    after: &str,
+) -> Known {
     let after = sheet(leaves, after).encode();
     (what, sheet(leaves, before).encode(), types.to_vec(), Ok(after))
 }
 
-fn refused(what: &'static str, leaves: &str, second: &str, types: &[u8]) -> Known {
+pub(crate) fn refused(what: &'static str, leaves: &str, second: &str, types: &[u8]) -> Known {
     (what, sheet(leaves, second).encode(), types.to_vec(), Err(17))
 }
 
@@ -188,7 +194,7 @@ fn lengths() -> Vec<Known> {
 }
 
 /// The sheet's refusals come first.
-fn orders() -> Vec<Known> {
+pub(crate) fn orders() -> Vec<Known> {
     let faults: [(&'static str, fn(&mut Bodies), u32); 5] = [
         ("leaf", |b| b.leaves[LEAF_KIND] = 2, 3),
         ("first table", |b| b.first[3] = 2, 4),

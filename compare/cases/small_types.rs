@@ -1,6 +1,7 @@
 //! Every filling of a small sheet: one or two leaves of each kind, each verdict
 //! of the second table ok, undecided or failing, the first table all ok or all
-//! undecided, and up to three types, of a few numbers.
+//! undecided, and up to three types, of a few numbers. The same by small tables of
+//! types.
 
 use common::sheet::{Leaf, Sheet};
 use common::tree::Tree;
@@ -13,13 +14,38 @@ const MOST_TYPES: usize = 3;
 
 /// Calls `visit` with each sheet and its types, until it returns an error.
 pub fn every<E>(visit: &mut impl FnMut(&[u8], &[u8]) -> Result<(), E>) -> Result<(), E> {
-    let lists: Vec<Vec<u8>> = (0..=MOST_TYPES).flat_map(|count| rows(&TYPES, count)).collect();
+    let lists = lists(&TYPES);
+    each_sheet(&[0, 1], &mut |bytes| lists.iter().try_for_each(|types| visit(bytes, types)))
+}
+
+/// Tables of types, two of them refused, and the numbers of their types.
+const TABLES: [&[u8]; 7] =
+    [&[0], &[0, 0], &[0, 0, 0], &[0, 0, 1, 2], &[0, 0, 0, 1], &[0, 1], &[0, 0, 2, 1]];
+const ROWS: [u8; 5] = [0, 1, 2, 3, 4];
+
+/// Calls `visit` with each sheet, its types and a table of types.
+pub fn every_by<E>(visit: &mut impl FnMut(&[u8], &[u8], &[u8]) -> Result<(), E>) -> Result<(), E> {
+    let lists = lists(&ROWS);
+    each_sheet(&[1], &mut |bytes| {
+        for parents in TABLES {
+            lists.iter().try_for_each(|types| visit(bytes, types, parents))?;
+        }
+        Ok(())
+    })
+}
+
+/// Every list of up to three types.
+fn lists(numbers: &[u8]) -> Vec<Vec<u8>> {
+    (0..=MOST_TYPES).flat_map(|count| rows(numbers, count)).collect()
+}
+
+/// Each sheet whose first table has one of these throughout.
+fn each_sheet<E>(firsts: &[u8], visit: &mut impl FnMut(&[u8]) -> Result<(), E>) -> Result<(), E> {
     for n in [1, 2] {
         for leaves in rows(&[Leaf::element(7), Leaf::wildcard(1)], n) {
             for second in rows(&VERDICTS, n * n) {
-                for first in [0, 1] {
-                    let bytes = sheet(&leaves, vec![first; n * n], &second);
-                    lists.iter().try_for_each(|types| visit(&bytes, types))?;
+                for first in firsts {
+                    visit(&sheet(&leaves, vec![*first; n * n], &second))?;
                 }
             }
         }
@@ -28,7 +54,7 @@ pub fn every<E>(visit: &mut impl FnMut(&[u8], &[u8]) -> Result<(), E>) -> Result
 }
 
 /// Every row of so many of these.
-fn rows<T: Copy>(from: &[T], count: usize) -> Vec<Vec<T>> {
+pub(crate) fn rows<T: Copy>(from: &[T], count: usize) -> Vec<Vec<T>> {
     let mut out = vec![Vec::new()];
     for _ in 0..count {
         out = out

@@ -17,6 +17,9 @@ pub const REFUSALS: [u32; 13] = [1, 3, 4, 5, 6, 7, 8, 9, 10, 11, 12, 13, 14];
 /// The refusal of types, after those of the sheet (document 02 §6).
 pub const TYPE_NUMBER: u32 = 17;
 
+/// The refusal of a table of types, before all others (document 02 §7).
+pub const TYPE_TABLE: u32 = 18;
+
 /// The reason where a type is not derived from the base's.
 pub const NOT_DERIVED: u32 = 148;
 
@@ -61,9 +64,8 @@ pub fn fill_text(answer: u32) -> String {
 
 fn types_refused(answer: u32) -> String {
     match answer.checked_sub(REFUSED) {
-        Some(number) if number == TYPE_NUMBER || REFUSALS.contains(&number) => {
-            format!("refused {number}")
-        }
+        Some(number @ (TYPE_NUMBER | TYPE_TABLE)) => format!("refused {number}"),
+        Some(number) if REFUSALS.contains(&number) => format!("refused {number}"),
         _ => format!("{answer}, which is no answer"),
     }
 }

@@ -4,7 +4,7 @@ use crate::tree::MOST_RECORDS;
 
 pub struct Options {
     pub seed: u64,
-    /// Random trees, sheets or chains.
+    /// Random trees, sheets, chains or tables of types.
     pub count: u64,
     /// Damaged strings.
     pub damaged: u64,

@@ -1,6 +1,6 @@
-//! Random inputs: accepted trees and sheets, chains of accepted trees, damaged
-//! ones, and the types of a sheet. Each is drawn from a generator of its own, so
-//! that seed and number name it.
+//! Random inputs: accepted trees and sheets, chains of accepted trees, tables of
+//! types, damaged ones, and the types of a sheet. Each is drawn from a generator
+//! of its own, so that seed and number name it.
 
 pub mod chains;
 pub mod change;
@@ -15,4 +15,5 @@ mod narrow;
 pub mod sheets;
 mod spoil;
 pub mod trees;
+pub mod type_tables;
 pub mod types;

@@ -6,4 +6,5 @@
 pub mod chain;
 pub mod sheet;
 pub mod tree;
+pub mod type_table;
 pub mod types;

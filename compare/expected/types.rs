@@ -10,6 +10,8 @@ use common::sheet::Sheet;
 use common::tree::Kind;
 use oracle::reasons::Mark;
 use oracle::{bridge, doors};
+use second::type_table::Types;
+use second::types::Refusal;
 
 use crate::sheet;
 
@@ -31,10 +33,19 @@ pub fn names() -> &'static [&'static str] {
     &NAMES
 }
 
-/// The number of each one's parent; `anyType` is its own.
-pub fn parents() -> Vec<usize> {
+/// The list as a table of types.
+static PARENTS: LazyLock<Vec<u8>> = LazyLock::new(|| {
     let number = |name| NAMES.iter().position(|known| *known == name).expect("a listed parent");
-    NAMES.iter().map(|name| number(doors::builtin_parent(name).unwrap_or(FIRST[0]))).collect()
+    let parent = |name: &&str| number(doors::builtin_parent(name).unwrap_or(FIRST[0])) as u8;
+    NAMES.iter().map(parent).collect()
+});
+
+/// It as the second reading reads it.
+static LIST: LazyLock<Result<Types, Refusal>> = LazyLock::new(|| Types::read(&PARENTS));
+
+/// The number of each one's parent; `anyType` is its own.
+pub fn parents() -> &'static [u8] {
+    &PARENTS
 }
 
 /// The verdicts of the list, by the derived type's number and the base's.
@@ -79,6 +90,7 @@ pub fn cause(leaves: usize, types: usize) -> usize {
     }
 }
 
+#[derive(Debug, PartialEq)]
 pub struct Filling {
     /// What the library must answer.
     pub answer: u32,
@@ -87,25 +99,41 @@ pub struct Filling {
 }
 
 pub fn fill_types(bytes: &[u8], types: &[u8]) -> Filling {
-    match second::types::filled(bytes, types) {
+    let filled = second::types::filled(bytes, types);
+    let number = |refusal: &Refusal| refusal.number;
+    let as_table = second::type_table::filled(bytes, types, &LIST);
+    let same = filled.as_ref().map_err(number) == as_table.as_ref().map_err(number);
+    assert!(same, "the second reading fills otherwise by the list as a table of types");
+    filling(bytes, types, filled, type_derivation_ok)
+}
+
+/// The second reading's filling, which must be the one by these verdicts.
+pub(crate) fn filling(
+    bytes: &[u8],
+    types: &[u8],
+    filled: Result<Vec<u8>, Refusal>,
+    verdict: impl FnMut(u32, u32) -> u32,
+) -> Filling {
+    match filled {
         Err(refusal) => Filling { answer: REFUSED + refusal.number, after: bytes.to_vec() },
         Ok(after) => {
-            assert!(after == by_verdicts(bytes, types), "the second reading fills otherwise");
+            let by_verdicts = by_verdicts(bytes, types, verdict);
+            assert!(after == by_verdicts, "the second reading fills otherwise");
             Filling { answer: 0, after }
         }
     }
 }
 
-/// An accepted sheet with good types, filled with the oracle's verdicts.
-fn by_verdicts(bytes: &[u8], types: &[u8]) -> Vec<u8> {
+/// An accepted sheet with good types, filled with these verdicts on two numbers.
+fn by_verdicts(bytes: &[u8], types: &[u8], mut verdict: impl FnMut(u32, u32) -> u32) -> Vec<u8> {
     let mut sheet = Sheet::decode(bytes);
     let n = sheet.leaves.len();
-    for (at, verdict) in sheet.second.iter_mut().enumerate() {
+    for (at, cell) in sheet.second.iter_mut().enumerate() {
         let (row, column) = (at / n, at % n);
         let is_pair = [row, column].iter().all(|leaf| sheet.leaves[*leaf].kind == Kind::Element);
-        if is_pair && *verdict == 1 {
-            let own = type_derivation_ok(types[row].into(), types[column].into());
-            *verdict = own.try_into().expect("a verdict");
+        if is_pair && *cell == 1 {
+            let own = verdict(types[row].into(), types[column].into());
+            *cell = own.try_into().expect("a verdict");
         }
     }
     sheet.encode()

@@ -22,6 +22,20 @@ unsafe extern "C" {
         types: *const u8,
         types_len: usize,
     ) -> u32;
+    fn marker_type_derivation_ok_by(
+        parents: *const u8,
+        parents_len: usize,
+        derived: u32,
+        base: u32,
+    ) -> u32;
+    fn marker_fill_types_by(
+        sheet: *mut u8,
+        sheet_len: usize,
+        types: *const u8,
+        types_len: usize,
+        parents: *const u8,
+        parents_len: usize,
+    ) -> u32;
 }
 
 /// The total range's minimum, `TOO_LARGE` where it is too large; or `BEYOND` + N
@@ -84,4 +98,27 @@ pub fn type_derivation_ok(derived: u32, base: u32) -> u32 {
 /// written.
 pub fn fill_types(sheet: &mut [u8], types: &[u8]) -> u32 {
     unsafe { marker_fill_types(sheet.as_mut_ptr(), sheet.len(), types.as_ptr(), types.len()) }
+}
+
+/// The verdict on two rows of a table of types, a byte for each row's parent: 0
+/// ok, 148 where the derived one is not derived from the base; or `REFUSED` + 18
+/// where the table of types is refused, `REFUSED` + 17 where it does not have one
+/// of the rows.
+pub fn type_derivation_ok_by(parents: &[u8], derived: u32, base: u32) -> u32 {
+    unsafe { marker_type_derivation_ok_by(parents.as_ptr(), parents.len(), derived, base) }
+}
+
+/// Fills the second table of the sheet as `fill_types` does, by a table of types
+/// in place of the built-in list.
+pub fn fill_types_by(sheet: &mut [u8], types: &[u8], parents: &[u8]) -> u32 {
+    unsafe {
+        marker_fill_types_by(
+            sheet.as_mut_ptr(),
+            sheet.len(),
+            types.as_ptr(),
+            types.len(),
+            parents.as_ptr(),
+            parents.len(),
+        )
+    }
 }

@@ -1,5 +1,5 @@
 //! From a tree to the oracle's particle, and back; from a sheet to its mark;
-//! from a chain to its joined tree; from two built-in types to their verdict.
+//! from a chain to its joined tree; from two types' names to their verdict.
 
 use std::collections::HashMap;
 use std::sync::Arc;
@@ -111,13 +111,17 @@ pub fn types(chain: &[Option<Tree>]) -> (String, Types) {
 /// The oracle's verdict on elements of these two types, in a schema that defines
 /// no type itself.
 pub fn type_derivation_ok(derived: &str, base: &str) -> Mark {
+    type_derivation_ok_in(&Types(HashMap::new()), derived, base)
+}
+
+/// The same in a schema that has these types.
+pub fn type_derivation_ok_in(types: &Types, derived: &str, base: &str) -> Mark {
     let element = |name: &str, of: &str| TypedElement {
         name: name.into(),
         type_ref: Some(of.into()),
         inline_type: None,
     };
-    let types = Types(HashMap::new());
-    doors::type_derivation_ok(&element("0", derived), &element("1", base), &types)
+    doors::type_derivation_ok(&element("0", derived), &element("1", base), types)
 }
 
 /// The tree of a particle.

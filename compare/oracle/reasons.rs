@@ -1,6 +1,6 @@
 //! Document 01's reason numbers for the messages of the Rust. A part of each
 //! message that no other has stands beside its number. Names in messages are
-//! digits here, or names of built-in types, so they match no part.
+//! digits here, or names of built-in types or of rows, so they match no part.
 
 use std::fmt;
 
@@ -22,7 +22,7 @@ impl fmt::Display for Mark {
 }
 
 /// The messages of mod.rs (101 to 121) and of elements.rs (122 to 124, and of two
-/// built-in types 148).
+/// types 148).
 const PARTS: [(u32, &str); 25] = [
     (101, "' occurrence range"),
     (102, "cannot restrict element"),

@@ -58,7 +58,7 @@ impl Types {
     }
 }
 
-/// No chain has a simple type, but the original asks.
+/// No chain has a simple type, but the original asks; tables of types have them.
 pub enum TypeDef {
     Simple(SimpleType),
     Complex(ComplexType),

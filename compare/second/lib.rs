@@ -1,6 +1,6 @@
 //! Documents 01 and 02 read a second time, for what the original Rust does not
-//! have: the refusals, total ranges that do not fit, and sheets filled from
-//! types. It takes nothing from the oracle or from the proved library, and from
+//! have: the refusals, total ranges that do not fit, tables of types, and sheets
+//! filled from types. It takes nothing from the oracle or from the proved library, and from
 //! `common` the layouts and the numbers of answers only.
 
 mod big;
@@ -8,4 +8,5 @@ pub mod chain;
 pub mod sheet;
 pub mod total;
 pub mod tree;
+pub mod type_table;
 pub mod types;

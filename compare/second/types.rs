@@ -92,7 +92,7 @@ pub fn verdict(derived: usize, base: usize) -> Option<u8> {
 }
 
 /// The number of the first refusal, and what shows it.
-#[derive(Debug)]
+#[derive(Debug, Clone)]
 pub struct Refusal {
     pub number: u32,
     pub place: String,
@@ -100,6 +100,16 @@ pub struct Refusal {
 
 /// The bytes of the filled sheet, or the first refusal.
 pub fn filled(bytes: &[u8], types: &[u8]) -> Result<Vec<u8>, Refusal> {
+    filled_by(bytes, types, verdict)
+}
+
+/// The same by other verdicts on two numbers, which are none for a number that
+/// is no type's.
+pub fn filled_by(
+    bytes: &[u8],
+    types: &[u8],
+    verdict: impl Fn(usize, usize) -> Option<u8>,
+) -> Result<Vec<u8>, Refusal> {
     if let Some(sheet::Refusal { number, place }) = sheet::first_refusal(bytes) {
         return Err(Refusal { number, place });
     }
@@ -119,7 +129,7 @@ pub fn filled(bytes: &[u8], types: &[u8]) -> Result<Vec<u8>, Refusal> {
             let cell = &mut out[places.second.start + row * leaves.len() + column];
             if *cell == 1 {
                 let own = verdict(types[*row].into(), types[*column].into());
-                *cell = own.expect("listed types");
+                *cell = own.expect("two types");
             }
         }
     }

@@ -13,10 +13,12 @@ pub enum Operation {
     EffectiveParticle = 7,
     TypeDerivationOk = 8,
     FillTypes = 9,
+    TypeDerivationOkBy = 10,
+    FillTypesBy = 11,
 }
 
 impl Operation {
-    pub const EVERY: [Operation; 9] = [
+    pub const EVERY: [Operation; 11] = [
         Operation::Mark,
         Operation::TotalMin,
         Operation::TotalMax,
@@ -26,6 +28,8 @@ impl Operation {
         Operation::EffectiveParticle,
         Operation::TypeDerivationOk,
         Operation::FillTypes,
+        Operation::TypeDerivationOkBy,
+        Operation::FillTypesBy,
     ];
 
     /// Those that ask an entry for one tree.
@@ -48,6 +52,8 @@ impl Operation {
             Operation::EffectiveParticle => "effective particle",
             Operation::TypeDerivationOk => "type derivation ok",
             Operation::FillTypes => "fill types",
+            Operation::TypeDerivationOkBy => "type derivation ok by a table of types",
+            Operation::FillTypesBy => "fill types by a table of types",
         }
     }
 }
@@ -56,9 +62,11 @@ impl Operation {
 pub struct Case {
     pub operation: Operation,
     /// The item that is asked for; or two types' numbers, the derived one's in the
-    /// low byte, the base's in the high one; 0 elsewhere.
+    /// low byte, the base's in the high one; or how many types the input begins
+    /// with, where a table of types follows them; 0 elsewhere.
     pub k: u16,
-    /// The sheet, tree, chain or types; empty for two types' numbers.
+    /// The sheet, tree, chain, types or table of types; types and then a table of
+    /// types; empty for two types' numbers alone.
     pub input: Vec<u8>,
     /// The lent buffer or sheet, empty where the operation takes none.
     pub before: Vec<u8>,

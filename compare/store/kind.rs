@@ -1,6 +1,6 @@
 //! The words that tell stored answers of one kind from those of another.
 
-use common::answers::{self, BEYOND, REFUSED, TYPE_NUMBER};
+use common::answers::{self, BEYOND, REFUSED, TYPE_NUMBER, TYPE_TABLE};
 use common::chain;
 use common::sheet::{LEAVES, Sheet};
 use common::tree::{Kind, Tree};
@@ -9,6 +9,7 @@ use oracle::bridge::{self, Leaves};
 use oracle::doors;
 use oracle::reasons::Mark;
 use second::tree::first_refusal;
+use second::type_table::faults;
 
 use crate::case::{Case, Operation};
 
@@ -33,8 +34,23 @@ pub fn of(case: &Case) -> String {
         Operation::Item => item(case).into(),
         Operation::EffectiveParticle => joined(case),
         Operation::TypeDerivationOk => answers::type_text(case.answer as u32),
-        Operation::FillTypes => filled(case),
+        Operation::FillTypes => filled(case, case.input.len()),
+        Operation::TypeDerivationOkBy if case.answer == TABLE => table_refused(&case.input),
+        Operation::TypeDerivationOkBy => answers::type_text(case.answer as u32),
+        Operation::FillTypesBy => {
+            let (types, parents) = case.input.split_at(case.k.into());
+            if case.answer == TABLE { table_refused(parents) } else { filled(case, types.len()) }
+        }
     }
+}
+
+/// The refusal of a table of types.
+const TABLE: u64 = (REFUSED + TYPE_TABLE) as u64;
+
+/// Why a table of types is refused.
+fn table_refused(parents: &[u8]) -> String {
+    let fault = faults(parents).first().map_or("no fault", |fault| fault.name());
+    format!("{}, {fault}", answers::type_text(REFUSED + TYPE_TABLE))
 }
 
 /// The kind of a sheet's answer; a mark that the Rust does not give is one of
@@ -78,8 +94,8 @@ fn joined(case: &Case) -> String {
     }
 }
 
-/// What a filling writes, or why it is refused.
-fn filled(case: &Case) -> String {
+/// What a filling from so many types writes, or why it is refused.
+fn filled(case: &Case, types: usize) -> String {
     const TYPES: u32 = REFUSED + TYPE_NUMBER;
     let written = case.after.iter().zip(&case.before).filter(|(after, before)| after != before);
     let written: Vec<u8> = written.map(|(after, _)| *after).collect();
@@ -91,7 +107,7 @@ fn filled(case: &Case) -> String {
             _ => "filled, ok and 148".into(),
         },
         TYPES => {
-            let cause = cause(case.before[LEAVES].into(), case.input.len());
+            let cause = cause(case.before[LEAVES].into(), types);
             format!("{}, {}", answers::fill_text(TYPES), CAUSES[cause])
         }
         answer => answers::fill_text(answer),

@@ -10,6 +10,7 @@ mod kind;
 mod shares;
 mod sheets;
 mod trees;
+mod type_tables;
 mod types;
 
 use case::Operation;
@@ -26,6 +27,7 @@ fn main() {
     trees::store(&mut stored, seed);
     chains::store(&mut stored, seed);
     types::store(&mut stored, seed);
+    type_tables::store(&mut stored, seed);
     let mut bytes = Vec::new();
     for case in &stored.cases {
         case.write(&mut bytes);
@@ -37,11 +39,14 @@ fn main() {
     let (calls, trees) = stored.of_trees();
     println!(
         "{} sheets to mark, {calls} calls of the entries for one tree over {trees} trees, \
-         {} chains to join, {} pairs of types, {} sheets to fill",
+         {} chains to join, {} pairs of types, {} sheets to fill; with a table of types \
+         {} pairs, {} sheets",
         stored.asked(Operation::Mark),
         stored.asked(Operation::EffectiveParticle),
         stored.asked(Operation::TypeDerivationOk),
         stored.asked(Operation::FillTypes),
+        stored.asked(Operation::TypeDerivationOkBy),
+        stored.asked(Operation::FillTypesBy),
     );
     println!("wrote {count} answers, {} bytes, to {ANSWERS}", bytes.len());
 }

@@ -27,6 +27,9 @@ pub enum Round {
     UnlikeSheets,
     Fillings,
     DamagedFillings,
+    TypeTables,
+    FillingsByTables,
+    DamagedFillingsByTables,
 }
 
 impl Round {

@@ -8,7 +8,7 @@ use common::random::Rng;
 use common::sheet::{Leaf, MOST_LEAVES, Sheet};
 use common::tree::Kind;
 use draw::sheets::Size;
-use draw::types;
+use draw::types::{self, Among};
 use expected::types::{CAUSES, fill_types, names, type_derivation_ok};
 
 use crate::case::{Case, Operation};
@@ -20,7 +20,7 @@ const BESIDE: [u8; 4] = [0, 1, 2, 49];
 
 /// The most bytes of a sheet: one that is refused for its depth is not shorter by
 /// much.
-const SHORT: usize = 300;
+pub const SHORT: usize = 300;
 /// The one of the most leaves has trees of few records.
 const WIDE: usize = 9_000;
 
@@ -81,12 +81,19 @@ fn up_to_short(rng: &mut Rng, bytes: Vec<u8>) -> Vec<Case> {
     if bytes.len() > SHORT {
         return Vec::new();
     }
-    let types = types::any(rng, &bytes);
+    let types = types::any(rng, &bytes, Among::List);
     vec![filled(&bytes, &types)]
 }
 
-/// A sheet of the most leaves, of both kinds, with good types.
+/// A sheet of the most leaves with good types.
 fn of_most_leaves(rng: &mut Rng) -> Case {
+    let bytes = sheet_of_most_leaves(rng);
+    let types = types::good(rng, &bytes, Among::List);
+    filled(&bytes, &types)
+}
+
+/// A sheet of the most leaves, of both kinds.
+pub fn sheet_of_most_leaves(rng: &mut Rng) -> Vec<u8> {
     let mixed = |leaves: &[Leaf]| {
         [Kind::Element, Kind::Wildcard]
             .iter()
@@ -96,8 +103,7 @@ fn of_most_leaves(rng: &mut Rng) -> Case {
         let bytes = types::sheet(rng, Size::Any);
         let leaves = Sheet::decode(&bytes).leaves;
         if leaves.len() == MOST_LEAVES && mixed(&leaves) && bytes.len() <= WIDE {
-            let types = types::good(rng, &bytes);
-            return filled(&bytes, &types);
+            return bytes;
         }
     }
 }

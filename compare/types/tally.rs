@@ -7,7 +7,8 @@ use common::sheet::{LEAVES, Sheet};
 use common::tree::Kind;
 use expected::types::{CAUSES, Filling, cause, names};
 
-use crate::check::Marks;
+use crate::check::{Given, Marks};
+use crate::table_tally::Tables;
 
 #[derive(Default)]
 pub struct Tally {
@@ -25,6 +26,8 @@ pub struct Tally {
     pub damaged: u64,
     /// Of the random and the damaged sheets.
     pub answers: Answers,
+    /// With tables of types.
+    pub tables: Tables,
 }
 
 /// How many bytes a filling changes: the least number of each lot.
@@ -41,7 +44,7 @@ pub struct Answers {
     filled: [u64; CHANGED.len()],
     written: [u64; WRITTEN.len()],
     left: [u64; LEFT.len()],
-    /// Fillings with a number at a wildcard that the list does not have.
+    /// Fillings with a number at a wildcard that is no type's.
     not_read: u64,
     /// By number.
     refused: [u64; TYPE_NUMBER as usize + 1],
@@ -50,10 +53,10 @@ pub struct Answers {
 }
 
 impl Answers {
-    pub fn count(&mut self, bytes: &[u8], types: &[u8], filling: &Filling, marks: Option<Marks>) {
+    pub fn count(&mut self, bytes: &[u8], given: Given, filling: &Filling, marks: Option<Marks>) {
         match filling.answer.checked_sub(REFUSED) {
-            None => self.filled(bytes, types, &filling.after),
-            Some(TYPE_NUMBER) => self.causes[cause(bytes[LEAVES].into(), types.len())] += 1,
+            None => self.filled(bytes, given, &filling.after),
+            Some(TYPE_NUMBER) => self.causes[cause(bytes[LEAVES].into(), given.types.len())] += 1,
             Some(number) => self.refused[number as usize] += 1,
         }
         let kind = marks.map(|marks| match marks {
@@ -64,7 +67,7 @@ impl Answers {
         kind.into_iter().for_each(|kind| self.marks[kind] += 1);
     }
 
-    fn filled(&mut self, bytes: &[u8], types: &[u8], after: &[u8]) {
+    fn filled(&mut self, bytes: &[u8], given: Given, after: &[u8]) {
         let changed: Vec<usize> = (0..bytes.len()).filter(|at| bytes[*at] != after[*at]).collect();
         let lot = CHANGED.iter().rposition(|(least, _)| changed.len() >= *least);
         self.filled[lot.expect("a lot")] += 1;
@@ -77,34 +80,47 @@ impl Answers {
         for at in undecided(&sheet.second) {
             self.left[if is_wildcard(at / n) { 1 } else { 2 }] += 1;
         }
-        let unlisted = |leaf: usize| usize::from(types[leaf]) >= names().len();
-        self.not_read += u64::from((0..n).any(|leaf| is_wildcard(leaf) && unlisted(leaf)));
+        let known = given.parents.map_or(names().len(), <[u8]>::len);
+        let unknown = |leaf: usize| usize::from(given.types[leaf]) >= known;
+        self.not_read += u64::from((0..n).any(|leaf| is_wildcard(leaf) && unknown(leaf)));
     }
 
     /// Every count with its name, in lots.
-    fn lots(&self) -> [(&'static str, Vec<(String, u64)>); 7] {
-        let named = |names: &[&str], counts: &[u64]| {
-            names.iter().map(|name| name.to_string()).zip(counts.iter().copied()).collect()
-        };
+    pub fn lots(&self) -> Vec<Lot> {
         let refused = REFUSALS.map(|number| (number.to_string(), self.refused[number as usize]));
-        [
+        vec![
             ("filled, by changed bytes", named(&CHANGED.map(|(_, name)| name), &self.filled)),
             ("verdicts written", named(&WRITTEN, &self.written)),
             ("verdicts left undecided", named(&LEFT, &self.left)),
-            ("not read", named(&["an unlisted number at a wildcard"], &[self.not_read])),
+            ("not read", named(&["a wildcard's that is no type's"], &[self.not_read])),
             ("refused", refused.to_vec()),
             ("refused 17, types handed in", named(&CAUSES, &self.causes)),
             ("marks", named(&MARKS, &self.marks)),
         ]
     }
+}
 
-    /// What did not come up.
-    pub fn missing(&self) -> Vec<String> {
-        let lots = self.lots().into_iter();
-        let rows = lots.flat_map(|(lot, rows)| rows.into_iter().map(move |row| (lot, row)));
-        let missing = rows.filter(|(_, (_, count))| *count == 0);
-        missing.map(|(lot, (name, _))| format!("{lot}: {name}")).collect()
+/// Counts with their names, under a name of their own.
+pub type Lot = (&'static str, Vec<(String, u64)>);
+
+pub fn named(names: &[&str], counts: &[u64]) -> Vec<(String, u64)> {
+    names.iter().map(|name| name.to_string()).zip(counts.iter().copied()).collect()
+}
+
+/// What did not come up.
+pub fn missing(lots: &[Lot]) -> Vec<String> {
+    let rows = lots.iter().flat_map(|(lot, rows)| rows.iter().map(move |row| (lot, row)));
+    let missing = rows.filter(|(_, (_, count))| *count == 0);
+    missing.map(|(lot, (name, _))| format!("{lot}: {name}")).collect()
+}
+
+pub fn write_lots(f: &mut fmt::Formatter<'_>, lots: &[Lot]) -> fmt::Result {
+    for (lot, rows) in lots {
+        let rows: Vec<String> =
+            rows.iter().map(|(name, count)| format!("{name} {count}")).collect();
+        write!(f, "; {lot}: {}", rows.join(", "))?;
     }
+    Ok(())
 }
 
 impl fmt::Display for Tally {
@@ -124,11 +140,7 @@ impl fmt::Display for Tally {
             self.random,
             self.damaged,
         )?;
-        for (lot, rows) in self.answers.lots() {
-            let rows: Vec<String> =
-                rows.iter().map(|(name, count)| format!("{name} {count}")).collect();
-            write!(f, "; {lot}: {}", rows.join(", "))?;
-        }
-        Ok(())
+        write_lots(f, &self.answers.lots())?;
+        write!(f, "\n{}", self.tables)
     }
 }
