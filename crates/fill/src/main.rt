@@ -6,9 +6,6 @@ use libc::STDIN_FILENO;
 use libc::STDOUT_FILENO;
 use types::FilledAnswer;
 
-// The bytes of how many type numbers there are.
-const COUNT: usize = 2;
-
 fn print_filled(sheet: &mut [u8], numbers: &[u8]) {
     match types::fill_types(sheet, numbers) {
         FilledAnswer::Filled => {
@@ -21,11 +18,8 @@ fn print_filled(sheet: &mut [u8], numbers: &[u8]) {
 // Input that ends within the type numbers leaves nothing for the sheet, which is refused as an empty one. Input past the longest sheet
 // fills the buffer beyond that limit, and is refused.
 fn main() {
-    let mut head = [0u8; COUNT];
-    io::read_full(STDIN_FILENO, &mut head);
-    let k = streams::number_at(&head, 0);
     let mut numbers = io::large_buffer();
-    streams::filled(&mut numbers, k);
+    let k = streams::counted(&mut numbers);
     let mut sheet = io::large_buffer();
     let n = io::read_full(STDIN_FILENO, &mut sheet);
     print_filled(&mut sheet[..n], &numbers[..k]);

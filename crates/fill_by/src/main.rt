@@ -6,9 +6,6 @@ use libc::STDIN_FILENO;
 use libc::STDOUT_FILENO;
 use types::FilledAnswer;
 
-// The bytes of a count.
-const COUNT: usize = 2;
-
 fn print_filled(sheet: &mut [u8], numbers: &[u8], parents: &[u8]) {
     match types::fill_types_by(sheet, numbers, parents) {
         FilledAnswer::Filled => {
@@ -21,16 +18,10 @@ fn print_filled(sheet: &mut [u8], numbers: &[u8], parents: &[u8]) {
 // Input that ends within the table has zeros in place of the rest, and no sheet: where the table is accepted so, the sheet is refused as
 // an empty one. Input past the longest sheet fills the buffer beyond that limit, and is refused.
 fn main() {
-    let mut head = [0u8; COUNT];
-    io::read_full(STDIN_FILENO, &mut head);
-    let rows = streams::number_at(&head, 0);
     let mut parents = io::large_buffer();
-    streams::filled(&mut parents, rows);
-    let mut head = [0u8; COUNT];
-    io::read_full(STDIN_FILENO, &mut head);
-    let k = streams::number_at(&head, 0);
+    let rows = streams::counted(&mut parents);
     let mut numbers = io::large_buffer();
-    streams::filled(&mut numbers, k);
+    let k = streams::counted(&mut numbers);
     let mut sheet = io::large_buffer();
     let n = io::read_full(STDIN_FILENO, &mut sheet);
     print_filled(&mut sheet[..n], &numbers[..k], &parents[..rows]);

@@ -1,4 +1,5 @@
-// What the programs do alike with what they read and print: a number of two bytes, so many bytes, a refusal's line, a tree.
+// What the programs do alike with what they read and print: a number of two bytes, so many bytes, both one after the other, a refusal's
+// line, a tree.
 ghost use mathlib.Core.Path.{_≡_};
 ghost use Prim.Native.Nat.{_+_, _≤_, _<_};
 ghost use lib.ListN.{length};
@@ -25,6 +26,22 @@ pub fn filled(buf: &mut [u8], n: usize) -> bool
     ensures { λ _. ⌜ Counts n (now (buf .exit)) ⌝ }
 {
     io::read_full(STDIN_FILENO, &mut buf[..n]) == n
+}
+
+// The bytes of a number that says how many bytes come after it.
+const COUNT: usize = 2;
+
+// Reads a number of two bytes from standard input, and then so many bytes to the start of buf. Input that ends before leaves the rest of
+// them as they were.
+pub fn counted(buf: &mut [u8]) -> usize
+    requires { ⌜ 65536 ≤ length (now buf) ⌝ }
+    ensures { λ r. ⌜ Counts r (now (buf .exit)) ⌝ }
+{
+    let mut head = [0u8; COUNT];
+    io::read_full(STDIN_FILENO, &mut head);
+    let n = number_at(&head, 0);
+    filled(buf, n);
+    n
 }
 
 // `refused N`.

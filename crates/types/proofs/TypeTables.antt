@@ -56,14 +56,14 @@ module _ (parents : List ℕ) where
       }
 
   each-row : TypeTable parents → (k row : ℕ) → row ≡ 0 + k → k < length parents → rowOk row (getD parents k anyType) ≡ true
-  each-row t zero zero q h = eq-eqb _ anyType (t .root)
-  each-row t (suc zero) (suc zero) q h = eq-eqb _ anyType (t .simple h)
-  each-row t (suc (suc k)) row q h =
-      let z : row ≡ suc (suc k) = omega arith in
-      rw z (row-later (suc (suc k)) (omega arith) .1 (t .later (suc (suc k)) (omega arith) h))
-  each-row t zero (suc row) q h = absurd (omega arith)
-  each-row t (suc zero) zero q h = absurd (omega arith)
-  each-row t (suc zero) (suc (suc row)) q h = absurd (omega arith)
+  each-row t k row q h =
+      let z : row ≡ k = omega arith in
+      rw z (go k h)
+    where
+      go : (i : ℕ) → i < length parents → rowOk i (parentOf parents i) ≡ true
+      go zero g = eq-eqb _ anyType (t .root)
+      go (suc zero) g = eq-eqb _ anyType (t .simple g)
+      go (suc (suc i)) g = row-later (suc (suc i)) (omega arith) .1 (t .later (suc (suc i)) (omega arith) g)
 
   as-table : TypeTable parents → tableOk parents ≡ true
   unfolding tableOk
