@@ -6,8 +6,8 @@ use Prim.Native.Nat.{ℕ, zero, suc, _+_, _≤_, _<_}
 use native.Mathlib.Numerals.{add-one}
 use native.Mathlib.Omega.{arith}
 use lib.Dec.{eqb, leb, ltb}
-use lib.ListN.{length, getD, drop, List·getD-eq-default}
-use lib.Seq.{drop-cons, drop-length}
+use lib.ListN.{length, getD, drop, List·getD-eq-default, drop-of-length-le}
+use lib.Seq.{drop-cons}
 use borrow.Author.Tests.{le-leb, lt-leb, eq-eqb, ne-eqb, not-true, not-false}
 use Rattle.types.specs.Derives.{parentOf, hasType, derives, notDerived, typeVerdict}
 use Rattle.types.specs.Table.{mostTypes, rowOk, rowsOk, tableOk}
@@ -15,6 +15,14 @@ use Rattle.types.specs.Fill.{isElement, typesOk, fillVerdict}
 
 pub no-parent : (parents : List ℕ) (t : ℕ) → length parents ≤ t → 0 ≡ parentOf parents t
 no-parent parents t h = sym (List·getD-eq-default parents 0 h)
+
+-- A turn of a loop that ends at the first place that fails: `left` says whether all places from this one on pass, `own` whether this one does, `after` whether all after it do
+module _ {left own whole : Bool} (after : Bool) (turn : left ≡ (own && after)) (rest : left ≡ whole) {r : Bool} (e : r ≡ own) where
+  fails-here : not r ≡ true → false ≡ whole
+  fails-here t = sym (sym rest ∙ (turn ∙ rw (sym e ∙ not-true r t)))
+
+  goes-on : not r ≡ false → after ≡ whole
+  goes-on t = sym (turn ∙ rw (sym e ∙ not-false r t)) ∙ rest
 
 -- A table of types --------------------------------------------------------------
 
@@ -35,7 +43,6 @@ module _ (parents : List ℕ) (row : ℕ) {p : ℕ} (pe : p ≡ parentOf parents
 
 -- the rows before this one are in order
 pub record RowsLeft (parents : List ℕ) (row : ℕ) : Type 0 where
-  pub within : row ≤ length parents
   pub rest : rowsOk row (drop row parents) ≡ tableOk parents
 
 module _ (parents : List ℕ) where
@@ -49,7 +56,7 @@ module _ (parents : List ℕ) where
 
   pub rows-start : 1 ≤ length parents → length parents ≤ mostTypes → RowsLeft parents 0
   unfolding tableOk
-  rows-start h g = record { within = omega arith; rest = sym (rw (le-leb 1 (length parents) h, le-leb (length parents) mostTypes g)) }
+  rows-start h g = record { rest = sym (rw (le-leb 1 (length parents) h, le-leb (length parents) mostTypes g)) }
 
   module _ (row : ℕ) (v : RowsLeft parents row) where
     row-turn : row < length parents → rowsOk row (drop row parents) ≡ (rowOk row (parentOf parents row) && rowsOk (row + 1) (drop (row + 1) parents))
@@ -58,17 +65,14 @@ module _ (parents : List ℕ) where
 
     module _ (h : row < length parents) {r : Bool} (e : r ≡ rowOk row (parentOf parents row)) where
       pub row-bad : not r ≡ true → false ≡ tableOk parents
-      row-bad t = sym (sym (v .rest) ∙ (row-turn h ∙ rw (sym e ∙ not-true r t)))
+      row-bad t = fails-here _ (row-turn h) (v .rest) e t
 
       pub row-next : not r ≡ false → RowsLeft parents (row + 1)
-      row-next t = record { within = omega arith; rest = sym (row-turn h ∙ rw (sym e ∙ not-false r t)) ∙ v .rest }
+      row-next t = record { rest = goes-on _ (row-turn h) (v .rest) e t }
 
     pub rows-done : length parents ≤ row → true ≡ tableOk parents
     unfolding rowsOk
-    rows-done h =
-        let q : row ≡ length parents = omega (arith, v .within) in
-        let k : drop row parents ≡ [] = ap (λ (n : ℕ). drop n parents) q ∙ drop-length parents in
-        sym (sym (v .rest) ∙ rw k)
+    rows-done h = sym (sym (v .rest) ∙ rw (drop-of-length-le parents {i = row} h))
 
 -- The verdict for two types ----------------------------------------------------
 
@@ -101,13 +105,12 @@ not-so-many parents (k ∷ ks) (t ∷ ts) h = sym (ap (λ (x : Bool). (not (isEl
 
 -- the first i type numbers are in order
 pub record TypesLeft (parents kinds types : List ℕ) (i : ℕ) : Type 0 where
-  pub within : i ≤ length kinds
   pub same-size : length types ≡ length kinds
   pub rest : typesOk parents (drop i kinds) (drop i types) ≡ typesOk parents kinds types
 
 module _ (parents kinds types : List ℕ) where
   pub types-start : length types ≡ length kinds → TypesLeft parents kinds types 0
-  types-start e = record { within = omega arith; same-size = e; rest = refl }
+  types-start e = record { same-size = e; rest = refl }
 
   module _ (i : ℕ) (v : TypesLeft parents kinds types i) where
     pub type-within : i < length kinds → i < length types
@@ -120,23 +123,17 @@ module _ (parents kinds types : List ℕ) where
 
     module _ (h : i < length kinds) {r : Bool} (e : r ≡ (not (isElement (getD kinds i 0)) || hasType parents (getD types i 0))) where
       pub type-bad : not r ≡ true → false ≡ typesOk parents kinds types
-      type-bad t = sym (sym (v .rest) ∙ (turn h ∙ rw (sym e ∙ not-true r t)))
+      type-bad t = fails-here _ (turn h) (v .rest) e t
 
       pub type-next : not r ≡ false → TypesLeft parents kinds types (i + 1)
       type-next t = record {
-        within = omega arith;
         same-size = v .same-size;
-        rest = sym (turn h ∙ rw (sym e ∙ not-false r t)) ∙ v .rest;
+        rest = goes-on _ (turn h) (v .rest) e t;
       }
 
     pub types-done : length kinds ≤ i → true ≡ typesOk parents kinds types
     unfolding typesOk
-    types-done h =
-        let q : i ≡ length kinds = omega (arith, v .within) in
-        let p : i ≡ length types = omega (arith, v .same-size) in
-        let k : drop i kinds ≡ [] = ap (λ (n : ℕ). drop n kinds) q ∙ drop-length kinds in
-        let t : drop i types ≡ [] = ap (λ (n : ℕ). drop n types) p ∙ drop-length types in
-        sym (sym (v .rest) ∙ rw (k, t))
+    types-done h = sym (sym (v .rest) ∙ rw (drop-of-length-le kinds {i = i} h, drop-of-length-le types {i = i} (omega (arith, v .same-size))))
 
 -- A verdict filled in ----------------------------------------------------------
 
