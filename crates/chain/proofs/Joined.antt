@@ -31,7 +31,7 @@ use Rattle.chain.specs.Facts.{AcceptedIn}
 use Rattle.chain.proofs.Extending.{joinAll, encodings, effective-none, effective-some, encode-joined, Fits, joined-fits}
 use Rattle.chain.proofs.Levels.{trees-present, accepted-levels, chain-trees, chain-bytes, chain-count}
 use Rattle.chain.proofs.NestStep.{length-nested}
-use Rattle.chain.proofs.Shallow.{accepted-shallow}
+use Rattle.entries.proofs.Shallow.{accepted-shallow}
 
 -- The limits ---------------------------------------------------------------------------
 

@@ -3,7 +3,6 @@ pub mod Levels
 pub mod Lengths
 pub mod Loops
 pub mod NestStep
-pub mod Shallow
 pub mod Joined
 pub mod Answered
 pub mod Entry

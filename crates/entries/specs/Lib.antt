@@ -1,3 +1,4 @@
 pub mod Answer
 pub mod ItemAnswer
 pub mod TidyAnswer
+pub mod TidyFacts

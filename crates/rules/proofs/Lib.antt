@@ -1,6 +1,7 @@
 pub mod Settles
 pub mod RuleSettles
 pub mod Unfolds
+pub mod TidiedFirst
 pub mod MayNotOccur
 pub mod Filling
 pub mod Shown

@@ -3,10 +3,15 @@ pub mod Premises
 pub mod FoldsKept
 pub mod Allowed
 pub mod TidiedWithin
+pub mod Ranges
+pub mod TotalsKept
 pub mod Emptiness
 pub mod Sizes
 pub mod Examples
 pub mod TidyTrees
+pub mod Shape
+pub mod Fewer
+pub mod Smallest
 pub mod KindTests
 pub mod LaidTrees
 pub mod MoveStep

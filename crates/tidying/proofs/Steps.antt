@@ -1,13 +1,15 @@
 -- The tests of tidying, and what follows where one holds. Assumes nothing.
 use mathlib.Core.Bool.{Bool, true, false, false≢true}
 use mathlib.Core.List.{List, _∷_, _++_}
-use mathlib.Core.Path.{_≡_, refl, ap}
+use mathlib.Core.Path.{_≡_, refl, ap, subst}
+use native.Mathlib.Omega.{arith}
 use borrow.Author.Tests.{eqb-true}
 use Rattle.particle.specs.declared.MaxOccurs.{MaxOccurs}
 use Rattle.particle.specs.declared.MaxOccurs.the-variants.{Bounded, Unbounded}
 use Rattle.particle.specs.declared.Occurs.{Occurs}
 use Rattle.particle.specs.Occurs.{isZero, isOnce}
 use Rattle.particle.specs.Tree.{Head, element, wildcard, sequence, choice, all, Items, none, item, Particle, pairOf, fold, _then_}
+use Rattle.language.specs.Language.{AtMost}
 use Rattle.tidying.specs.Tidy.{splices, put, keep, takesPair, closed, settle}
 use Rattle.tidying.specs.TidyTree.{Group}
 
@@ -71,6 +73,10 @@ takes-cases C s (sequence q) (all p) e = absurd (false≢true e)
 pub zero-is : (m : MaxOccurs) → isZero m ≡ true → m ≡ Bounded 0
 zero-is (Bounded n) t = ap Bounded (eqb-true n 0 t)
 zero-is Unbounded t = absurd (false≢true t)
+
+-- and then so is the minimum, the pair being in order
+pub zero-min : (p : Occurs) → AtMost (p .min) (p .max) → isZero (p .max) ≡ true → p .min ≡ 0
+zero-min p o t = let l : AtMost (p .min) (Bounded 0) = subst (AtMost (p .min)) (zero-is (p .max) t) o in omega arith
 
 -- a fold over one row of trees after another
 pub fold-then {ℓ} : {A : Type ℓ} (f : Head → List A → A) (x y : Items) → fold f (x then y) ≡ fold f x ++ fold f y

@@ -65,7 +65,7 @@ from-agrees (sequence p) es ts m = group-agrees p (sum ts) (every-sum m)
 from-agrees (choice p) es ts m = group-agrees p (span ts) (some-span m)
 from-agrees (all p) es ts m = group-agrees p (sum ts) (every-sum m)
 
-emptiable-exact : (x : Particle) → emptiable x ≡ eqb (exactTotal x .min) 0
+pub emptiable-exact : (x : Particle) → emptiable x ≡ eqb (exactTotal x .min) 0
 unfolding emptiable exactTotal
 emptiable-exact x =
     from-agrees (x .head) (fold emptiableFrom (x .items)) (fold exactFrom (x .items)) (fold-matches Agrees emptiableFrom exactFrom from-agrees (x .items))
