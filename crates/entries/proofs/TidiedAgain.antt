@@ -1,7 +1,6 @@
 -- What the entry `tidy` writes is a tidy tree that is accepted alone, and that the entry gives back as it is (document 02 §8). Assumes nothing.
 use mathlib.Core.Bool.{Bool, true, false}
-use mathlib.Core.List.{List, _++_}
-use mathlib.Core.Logic.{_↔_}
+use mathlib.Core.List.{List}
 use mathlib.Core.Path.{_≡_, refl, ap, sym, _∙_}
 use Prim.Native.Nat.{ℕ, _*_, _≤_}
 use native.Mathlib.Omega.{arith}
@@ -11,23 +10,20 @@ use lib.ListN.{length, take, drop}
 use lib.Seq.{take-at}
 use Rattle.particle.specs.Record.{recordSize}
 use Rattle.particle.specs.Tree.{Particle, single, sizeI, tree}
-use Rattle.particle.specs.Encode.{encode, Bytes}
+use Rattle.particle.specs.Encode.{encode}
 use Rattle.particle.proofs.ItemEncodes.{length-encode}
 use Rattle.particle.proofs.Encoded.{encoded-tree}
 use Rattle.tidying.specs.Tidy.{tidy}
-use Rattle.tidying.specs.TidyTree.{TidyTree}
 use Rattle.tidying.proofs.Shape.{left-alone}
 use Rattle.tidying.proofs.TidyTrees.{tidy-twice}
 use Rattle.tidying.proofs.Fewer.{count-tells}
 use Rattle.intake.specs.declared.Checked.{Checked}
 use Rattle.intake.specs.declared.Checked.the-variants.{Accepted, Refused}
-use Rattle.intake.specs.Faults.{Known}
 use Rattle.intake.specs.Scan.{refusalIn, alone}
 use Rattle.intake.specs.Accepted.{TreeFits}
 use Rattle.intake.proofs.AcceptedFits.{accepted-fits}
 use Rattle.intake.proofs.FitsAccepted.{fits-accepted}
-use Rattle.intake.proofs.FitsBytes.{fits-bytes}
-use Rattle.entries.specs.Answer.{gives, refused, refusalAlone}
+use Rattle.entries.specs.Answer.{gives, refusalAlone}
 use Rattle.entries.specs.TidyAnswer.{tidiedTree, startingWith, tidyOr, tidyAnswer, tidyBuffer}
 use Rattle.entries.specs.TidyFacts.{Tidies, tidiedBytes, AcceptedTidied, TidiedAccepted, TidiedFitsLeaves, TidiedAgain, CountTellsTidy, BytesTellTidy}
 use Rattle.entries.proofs.Tidied.{tidied, tidied-written}

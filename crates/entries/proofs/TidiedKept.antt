@@ -3,16 +3,14 @@ use mathlib.Core.Bool.{true}
 use mathlib.Core.List.{List}
 use mathlib.Core.Logic.{_↔_}
 use mathlib.Core.Path.{_≡_, ap, ap₂, sym, _∙_, subst}
-use Prim.Native.Nat.{ℕ, _*_, _≤_}
+use Prim.Native.Nat.{ℕ, _≤_}
 use native.Mathlib.Omega.{arith}
 use lib.ListN.{length}
 use Rattle.particle.specs.declared.Occurs.{Occurs}
-use Rattle.particle.specs.Record.{recordSize}
-use Rattle.particle.specs.Tree.{Head, element, sequence, Items, Particle, single, sizeI, tree}
+use Rattle.particle.specs.Tree.{Head, element, sequence, Items, Particle, single, tree}
 use Rattle.particle.specs.Encode.{kindNumber}
 use Rattle.particle.specs.Empty.{emptiable}
 use Rattle.particle.proofs.ItemEncodes.{length-encode}
-use Rattle.totals.specs.declared.ranges.TotalRange.{TotalRange}
 use Rattle.totals.specs.Exact.{exactTotal}
 use Rattle.totals.specs.Total.{total}
 use Rattle.language.specs.Language.{Names, Allows}
