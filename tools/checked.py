@@ -25,8 +25,11 @@ def joined(paper):
                      lambda: treewriters.join(levels, paper.leaves), NO_CONTENT)
 
 
-def tidied(paper, tree):
-    return same_tree(paper, "tidied tree", TIDY, tidy(tree),
+def tidied(paper, tree, here=None):
+    """The tidied tree, which must be the one here: that in which the steps end, where
+    there is one, else that of the plain reading."""
+    here = tidy(tree) if here is None else here
+    return same_tree(paper, "tidied tree", TIDY, here,
                      lambda: treewriters.tidy(tree, paper.leaves))
 
 

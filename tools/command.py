@@ -125,7 +125,8 @@ USES_OF = {
         "help": "a file for the tree's bytes in place of its notation"})]),
     "total": (trees.total, [ONE_FILE]),
     "emptiable": (trees.emptiable, [ONE_FILE]),
-    "tidy": (trees.tidy, [ONE_FILE]),
+    "tidy": (trees.tidy, [ONE_FILE, ("--steps", {
+        "action": "store_true", "help": "each step with its rule and the tree after it"})]),
     "item": (trees.item, [("k", {"metavar": "K", "type": item_number,
                                  "help": "the item's number, from 0"}), ONE_FILE]),
     "types": (typelist.types, [ONE_FILE, ("-o", {

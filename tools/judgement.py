@@ -7,7 +7,7 @@ from typing import List, NamedTuple, Optional, Tuple
 
 import filling
 from marker import Mark
-from notation import tree_text
+from notation import cut_text
 from sheet import OK, UNDECIDED, Kind, Sheet, Tree
 from typenames import BUILTIN, TypeTable
 
@@ -94,8 +94,7 @@ class Subject(NamedTuple):
     filled: frozenset = frozenset()
 
     def text(self, tree, longest=LONGEST):
-        text = tree_text(tree, self.names)
-        return text if len(text) <= longest else f"{text[:longest - 3]}..."
+        return cut_text(tree, self.names, longest)
 
     def verdict(self, which, derived, base):
         """A verdict of a table as an outcome."""

@@ -125,6 +125,12 @@ def tree_text(tree, names):
     return f"{head}[{','.join(tree_text(item, names) for item in tree.items)}]"
 
 
+def cut_text(tree, names, longest):
+    """A tree's text, cut after so many characters."""
+    text = tree_text(tree, names)
+    return text if len(text) <= longest else f"{text[:longest - 3]}..."
+
+
 def head_text(tree, names):
     """A tree's letter and pair."""
     letter = names[tree.leaf] if tree.kind.is_leaf else GROUP_LETTERS[tree.kind]

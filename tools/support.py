@@ -40,8 +40,12 @@ needs_filler = needs(proved.FILL)
 needs_table_filler = needs(proved.FILL_BY)
 
 
-def needs_tree_programs(test):
-    return needs_tidier(needs_items(test))
+def needs_every_program(test):
+    """For a page whose commands may ask any of them."""
+    for need in (needs_marker, needs_joiner, needs_describer, needs_tidier, needs_items,
+                 needs_filler, needs_table_filler):
+        test = need(test)
+    return test
 
 
 ROOT = proved.ROOT

@@ -244,6 +244,7 @@ class Packing(Command):
         self.assertEqual((done.returncode, done.stdout.decode()), (
             0, f"pack: {folder}: its samples are 8 papers: 5 pass, 2 fail, 1 undecided\n"))
         for words in (("total", "samples/report.paper"), ("tidy", "samples/entry.paper"),
+                      ("tidy", "--steps", "samples/report.paper"),
                       ("item", "0", "samples/entry.paper"), ("why", "samples/rounds.paper"),
                       ("why", "samples/types.paper"), ("why", "samples/titles.paper")):
             there, here = (

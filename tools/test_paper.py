@@ -11,8 +11,8 @@ import marker
 from draft import parse
 from printed import paper_text
 from support import (
-    ROOT, SAMPLES, Command, needs_describer, needs_filler, needs_joiner, needs_marker,
-    needs_table_filler, needs_tree_programs, random_paper, random_sheet, run,
+    ROOT, SAMPLES, Command, needs_describer, needs_every_program, needs_filler, needs_joiner,
+    needs_marker, needs_table_filler, random_paper, random_sheet, run,
 )
 from usage import GRAMMAR, USES
 from words import NEVER_SHOWN, REASONS, REFUSALS, in_words
@@ -328,12 +328,7 @@ class Documents(unittest.TestCase):
                                       capture_output=True)
                 self.assertIn(f"`{done.stdout.decode().splitlines()[-1]}`", page)
 
-    @needs_marker
-    @needs_joiner
-    @needs_describer
-    @needs_tree_programs
-    @needs_filler
-    @needs_table_filler
+    @needs_every_program
     def test_the_readme_says_what_happens(self):
         """Each command after a $, and the output below it."""
         readme = README.read_text(encoding="utf-8")

@@ -25,7 +25,7 @@ def tidy(tree):
     for item in map(tidy, tree.items):
         if item.maximum == 0:
             continue
-        if item.kind == tree.kind and is_once(item):
+        if splices(tree, item):
             items += item.items
         else:
             items.append(item)
@@ -38,9 +38,23 @@ def closed(tree, items):
         only = items[0]
         if is_once(tree):
             return only
-        if tree.kind == Kind.SEQUENCE and only.kind == Kind.CHOICE and is_once(only):
-            return only._replace(minimum=tree.minimum, maximum=tree.maximum)
+        if takes_pair(tree, only):
+            return with_pair_of(tree, only)
     return tree._replace(items=items)
+
+
+def splices(group, item):
+    """Whether an item is a (1,1) one of the group's own kind (D3)."""
+    return item.kind == group.kind and is_once(item)
+
+
+def takes_pair(group, only):
+    """Whether the one item left in a group that is not (1,1) takes its pair (D5)."""
+    return group.kind == Kind.SEQUENCE and only.kind == Kind.CHOICE and is_once(only)
+
+
+def with_pair_of(group, item):
+    return item._replace(minimum=group.minimum, maximum=group.maximum)
 
 
 def is_once(tree):

@@ -5,6 +5,7 @@ import checked
 import draft
 import layout
 import printed
+import steps
 from faults import PaperError
 from files import FINE, WRONG, Stop, put_bytes, put_text, shown, text_of
 from notation import tree_text
@@ -66,8 +67,17 @@ def emptiness(given):
 
 
 def tidy(options):
-    return each_tree(options, lambda paper, tree:
-                     printed.folded(tree_text(checked.tidied(paper, tree), paper.names)))
+    if options.steps:
+        return each_labelled(options, step_lines)
+    return each_tree(options, lambda paper, tree: text_of_tree(paper, checked.tidied(paper, tree)))
+
+
+def step_lines(label, paper, tree):
+    """The tree, the steps by which it is tidied, and the tidied tree."""
+    found = list(steps.steps(tree))
+    tidied = checked.tidied(paper, tree, found[-1].tree if found else tree)
+    first, last = (f"{label}{text_of_tree(paper, one)}" for one in (tree, tidied))
+    return "\n".join([first, *steps.lines(found, paper.names), last])
 
 
 def item(options):
@@ -79,16 +89,26 @@ def item_words(paper, tree, k):
     if found is None:
         count = len(tree.items)
         return f"no item {k}: there {'is 1 item' if count == 1 else f'are {count} items'}, from 0"
-    return printed.folded(tree_text(found, paper.names))
+    return text_of_tree(paper, found)
+
+
+def text_of_tree(paper, tree):
+    return printed.folded(tree_text(tree, paper.names))
 
 
 def each_tree(options, words):
     """Prints words on the one tree of a text, or on both."""
+    return each_labelled(options, lambda label, paper, tree: f"{label}{words(paper, tree)}")
+
+
+def each_labelled(options, words):
+    """Prints words on the one tree of a text, or on both; ``words`` has what says
+    which tree it is."""
     _, paper = paper_in(options.file)
     levels = paper.chain.levels
     tree = levels[0] if len(levels) == 1 else checked.joined(paper)
     if paper.derived is None:
-        put_text(f"{checked.NO_CONTENT if tree is None else words(paper, tree)}\n")
+        put_text(f"{checked.NO_CONTENT if tree is None else words('', paper, tree)}\n")
     else:
-        put_text(f"derived: {words(paper, paper.derived)}\nbase: {words(paper, tree)}\n")
+        put_text(f"{words('derived: ', paper, paper.derived)}\n{words('base: ', paper, tree)}\n")
     return FINE

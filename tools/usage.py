@@ -14,7 +14,7 @@ USES = {
     "join": "a chain of trees, alone or as a paper's base, becomes one tree",
     "total": "a tree or chain, or both trees of a paper, get total range and emptiness",
     "emptiable": "likewise, whether it may be empty",
-    "tidy": "likewise, the tidied tree",
+    "tidy": "likewise, the tidied tree, or each step to it",
     "item": "likewise, the K-th item of the root, from 0",
     "types": "the rows of a paper's table of types, or of one in bytes",
 }
