@@ -41,6 +41,11 @@ pub const FEW_PAIRS: [Pair; 6] = [
     (4294967295, Some(4294967295)),
 ];
 
+/// For trees of up to 4 records whose words are compared: with these they have
+/// short ones.
+pub const SHORT_PAIRS: [Pair; 6] =
+    [(0, Some(0)), (0, Some(1)), (1, Some(1)), (1, Some(2)), (2, Some(2)), (0, None)];
+
 const ALL_PAIRS: [Pair; 2] = [(0, Some(1)), (1, Some(1))];
 
 /// Hands the bytes of every tree of `records` records to `visit`, until it

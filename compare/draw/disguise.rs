@@ -6,9 +6,21 @@ use common::random::Rng;
 use common::sheet::Leaf;
 use common::tree::{Kind, Tree};
 
-use crate::change::Change;
+use crate::change::{self, Change};
+use crate::trees;
 
 pub const CHANGES: [Change; 4] = [wrap, absent_item, own_kind, pair_outside];
+
+/// A tree of usual pairs with up to so many records, and then with up to so many
+/// of the changes.
+pub fn tree(rng: &mut Rng, records: usize, changes: usize) -> Tree {
+    let records = rng.within(1, records);
+    let mut tree = trees::usual_tree_of(rng, records);
+    for _ in 0..rng.below(changes + 1) {
+        change::one(rng, &mut tree, &[Leaf::element(0), Leaf::element(1)], &CHANGES);
+    }
+    tree
+}
 
 fn wrap(rng: &mut Rng, record: &mut Tree, _: &[Leaf]) {
     let kind = rng.pick(&[Kind::Sequence, Kind::Choice]);

@@ -19,6 +19,9 @@ pub struct Answers {
     pub items: Vec<Vec<u8>>,
     /// The tidied tree, or the number of the refusal.
     pub tidied: Result<Vec<u8>, u32>,
+    /// What the Rust makes of its own tidied tree when it is asked to tidy that;
+    /// nothing where the tree is refused.
+    pub tidied_again: Option<Vec<u8>>,
 }
 
 pub fn answers(bytes: &[u8]) -> Answers {
@@ -36,6 +39,7 @@ fn refused(number: u32) -> Answers {
         emptiable: number,
         items: Vec::new(),
         tidied: Err(number),
+        tidied_again: None,
     }
 }
 
@@ -44,12 +48,14 @@ fn accepted(bytes: &[u8]) -> Answers {
     assert!(tree.encode() == bytes, "reading and writing a tree is not the identity");
     let particle = Leaves::none().particle(&tree);
     let (min, max) = doors::effective_total_range(&particle);
+    let tidied = doors::normalize(&particle);
     Answers {
         total: second::total::total(&tree),
         rust_total: Some((min.into(), max.map_or(BEYOND, u64::from))),
         emptiable: doors::emptiable(&particle).into(),
         items: tree.items.iter().map(Tree::encode).collect(),
-        tidied: Ok(bridge::tree(&doors::normalize(&particle)).encode()),
+        tidied: Ok(bridge::tree(&tidied).encode()),
+        tidied_again: Some(bridge::tree(&doors::normalize(&tidied)).encode()),
     }
 }
 

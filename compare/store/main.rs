@@ -9,6 +9,7 @@ mod chains;
 mod kind;
 mod shares;
 mod sheets;
+mod tidied;
 mod trees;
 mod type_tables;
 mod types;
@@ -28,6 +29,7 @@ fn main() {
     chains::store(&mut stored, seed);
     types::store(&mut stored, seed);
     type_tables::store(&mut stored, seed);
+    tidied::store(&mut stored, seed);
     let mut bytes = Vec::new();
     for case in &stored.cases {
         case.write(&mut bytes);

@@ -30,10 +30,11 @@ pub enum Round {
     TypeTables,
     FillingsByTables,
     DamagedFillingsByTables,
+    TidiedTrees,
 }
 
 impl Round {
-    fn rng(self, seed: u64, draw: u64) -> Rng {
+    pub fn rng(self, seed: u64, draw: u64) -> Rng {
         Rng::new(seed, ((self as u64) << 32) + draw)
     }
 }

@@ -127,7 +127,7 @@ fn of_most_records(rng: &mut Rng) -> [Case; 3] {
     ]
 }
 
-fn tidied(rng: &mut Rng, bytes: &[u8], answers: &Answers, room: usize) -> Case {
+pub fn tidied(rng: &mut Rng, bytes: &[u8], answers: &Answers, room: usize) -> Case {
     let (answer, written) = answers.tidied_into(bytes.len(), room);
     lent(rng, Operation::Tidy, 0, bytes, answer, room, written)
 }

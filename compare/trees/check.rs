@@ -6,11 +6,20 @@ use common::random::Rng;
 use expected::tree::Answers;
 
 use crate::tally::Tally;
+use crate::tidy_facts;
 
 pub struct Difference {
     pub what: String,
     pub expected: String,
     pub got: String,
+    /// The tidied tree, where the difference is about it.
+    pub tidied: Option<String>,
+}
+
+impl Difference {
+    pub fn new(what: &str, expected: String, got: String) -> Difference {
+        Difference { what: what.into(), expected, got, tidied: None }
+    }
 }
 
 /// Compares every answer on `bytes`.
@@ -26,25 +35,25 @@ pub fn answers(bytes: &[u8], rng: &mut Rng, tally: &mut Tally) -> Result<(), Dif
     items(&lent, &expected, rng, tally)?;
     let room = bytes.len() + rng.within(1, 40);
     for room in [room, bytes.len(), bytes.len().saturating_sub(1), rng.below(bytes.len() + 1)] {
-        compare_tidied(&lent, &expected, room, rng)?;
+        let answer = expected.tidied_into(bytes.len(), room);
+        compare_tidied("tidied", &lent, answer, room, rng)?;
         tally.tidied += 1;
     }
-    if lent != bytes {
-        return Err(Difference {
-            what: "the tree handed in".into(),
-            expected: "unchanged".into(),
-            got: "changed by one of the calls".into(),
-        });
+    if expected.tidied.is_ok() {
+        tidy_facts::compare(&lent, &expected, rng, &mut tally.facts)?;
     }
-    Ok(())
+    unchanged("the tree handed in", bytes, &lent)
+}
+
+/// Compares what a call was handed with what it is after it.
+pub fn unchanged(what: &str, before: &[u8], after: &[u8]) -> Result<(), Difference> {
+    let text = |same| if same { "unchanged" } else { "changed by one of the calls" }.to_string();
+    same(what, true, before == after, text)
 }
 
 /// Compares the total range with the second reading's, and with the Rust's.
 fn totals(tree: &[u8], expected: &Answers) -> Result<(), Difference> {
-    let text = |answer: u64| match answers::total_text(answer) {
-        words if answer < BEYOND => words,
-        words => format!("{answer} ({words})"),
-    };
+    let text = total_text;
     let (min, max) = (library::total_min(tree), library::total_max(tree));
     same("total minimum", expected.total.0, min, text)?;
     same("total maximum", expected.total.1, max, text)?;
@@ -54,6 +63,13 @@ fn totals(tree: &[u8], expected: &Answers) -> Result<(), Difference> {
         same("total maximum with the cap, and the Rust's", rust.1, max, text)?;
     }
     Ok(())
+}
+
+pub fn total_text(answer: u64) -> String {
+    match answers::total_text(answer) {
+        words if answer < BEYOND => words,
+        words => format!("{answer} ({words})"),
+    }
 }
 
 /// So many items at either end of the root's go into every kind of buffer, those
@@ -89,7 +105,7 @@ fn items(
     Ok(())
 }
 
-fn same<T: PartialEq + Copy>(
+pub fn same<T: PartialEq + Copy>(
     what: &str,
     expected: T,
     got: T,
@@ -98,10 +114,10 @@ fn same<T: PartialEq + Copy>(
     if expected == got {
         return Ok(());
     }
-    Err(Difference { what: what.into(), expected: text(expected), got: text(got) })
+    Err(Difference::new(what, text(expected), text(got)))
 }
 
-fn emptiable_text(answer: u32) -> String {
+pub fn emptiable_text(answer: u32) -> String {
     match answer {
         0 => "0 (no)".into(),
         1 => "1 (yes)".into(),
@@ -139,11 +155,11 @@ fn same_bytes(
     } else {
         "in a part that keeps its value"
     };
-    Err(Difference {
-        what: format!("{what}: byte {place}, {part}"),
-        expected: format!("{:02x}", expected[at]),
-        got: format!("{:02x}", got[at]),
-    })
+    Err(Difference::new(
+        &format!("{what}: byte {place}, {part}"),
+        format!("{:02x}", expected[at]),
+        format!("{:02x}", got[at]),
+    ))
 }
 
 /// Asks for the k-th item with a buffer of `room` bytes and compares the
@@ -169,27 +185,30 @@ fn compare_item(
 }
 
 /// Tidies into a buffer of `room` bytes and compares the count or refusal,
-/// every byte of the buffer, and the bytes around it.
-fn compare_tidied(
+/// every byte of the buffer, and the bytes around it. Expected are the answer
+/// and what is written to the buffer's start.
+pub fn compare_tidied(
+    what: &str,
     tree: &[u8],
-    answers: &Answers,
+    (answer, written): (u64, &[u8]),
     room: usize,
     rng: &mut Rng,
 ) -> Result<(), Difference> {
     let mut got = lent_buffer(room, rng);
     let mut expected = got.clone();
-    let (answer, written) = answers.tidied_into(tree.len(), room);
     expected[GUARD..GUARD + written.len()].copy_from_slice(written);
     let answered = library::tidy(tree, &mut got[GUARD..GUARD + room]);
     if answered == answer && got == expected {
         return Ok(());
     }
-    let what = format!("tidied into a buffer of {room} bytes");
-    same(&format!("{what}: the answer"), answer, answered, |answer| {
-        match answer.checked_sub(BEYOND) {
-            None => format!("{answer} records"),
-            Some(number) => format!("refused {number}"),
-        }
-    })?;
+    let what = format!("{what} into a buffer of {room} bytes");
+    same(&format!("{what}: the answer"), answer, answered, count_text)?;
     same_bytes(&what, &expected, &got, room, written.len())
+}
+
+pub fn count_text(answer: u64) -> String {
+    match answer.checked_sub(BEYOND) {
+        None => format!("{answer} records"),
+        Some(number) => format!("refused {number}"),
+    }
 }

@@ -6,9 +6,14 @@ use common::answers::{BEYOND, TOO_LARGE};
 use common::tree::{KIND, RECORD, count};
 use expected::tree::Answers;
 
+use crate::fact_tally::Facts;
+
 #[derive(Default)]
 pub struct Tally {
     pub small: u64,
+    /// Small trees with pairs that leave them short words.
+    pub short: u64,
+    pub untidy: u64,
     pub random: u64,
     /// Random trees with a group of more items than a byte can count.
     pub wide: u64,
@@ -31,6 +36,8 @@ pub struct Tally {
     pub buffers: u64,
     /// Buffers that a tree was tidied into.
     pub tidied: u64,
+    /// What tidying did; this has a closing line of its own.
+    pub facts: Facts,
 }
 
 impl Tally {
@@ -70,8 +77,8 @@ impl fmt::Display for Tally {
         let [min0, min_top, min_over, max0, max_top, max_over, unbounded] = self.edges;
         write!(
             f,
-            "all equal: {} small trees, {} random trees ({} of them wide), {} known strings, \
-             {} damaged strings; \
+            "all equal: {} small trees, {} of short words, {} untidy trees, \
+             {} random trees ({} of them wide), {} known strings, {} damaged strings; \
              {} accepted (records: {e} elements, {w} wildcards, {s} sequences, {c} choices, \
              {a} all-groups, {} of these groups empty), \
              refused 10: {r10}, 11: {r11}, 12: {r12}, 13: {r13}, 14: {r14}; \
@@ -81,6 +88,8 @@ impl fmt::Display for Tally {
              {} items and {} places without item in {} buffers, \
              tidied into {} buffers",
             self.small,
+            self.short,
+            self.untidy,
             self.random,
             self.wide,
             self.known,
