@@ -14,7 +14,7 @@ HEADING = f"{LEVEL}Lecture: tidy trees"
 BLOCK = "    "
 COMMAND = re.compile(r"(echo|printf) ")
 # The lecture has at least so many commands.
-FEWEST = 10
+FEWEST = 20
 
 PAGE = r"""# A page
 

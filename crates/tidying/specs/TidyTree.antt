@@ -1,4 +1,4 @@
--- Tidy trees, sentence by sentence (document 02 §8): nothing here says how a tree is tidied. Assumes nothing: these are definitions.
+-- Tidy trees, sentence by sentence (document 02 §8). Nothing here says how a tree is tidied; `isTidied` only tells sequences and choices from other records. Assumes nothing: these are definitions.
 use mathlib.Core.Path.{_≡_}
 use lib.Dec.{T}
 use Rattle.particle.specs.declared.Occurs.{Occurs}
@@ -17,7 +17,7 @@ abbrev pub EachItem : (Head → Type 0) → Items → Type 0
 EachItem Q none = Unit {0}
 EachItem Q (item h k r) = Q h × EachItem Q r
 
--- P of each record of the trees that stands outside all-groups: of its head and its items
+-- P of each record of the trees that stands outside all-groups: of its head and its items; a leaf has no items in any accepted tree
 abbrev pub EveryOutside : (Head → Items → Type 0) → Items → Type 0
 EveryOutside P none = Unit {0}
 EveryOutside P (item h k r) = (P h k × (Group h → EveryOutside P k)) × EveryOutside P r
