@@ -200,7 +200,8 @@ uint32_t marker_emptiable(const uint8_t *tree, size_t tree_len);
  *
  * Returns the tidied tree's record count n. Its MARKER_RECORD * n bytes, at
  * most tree_len, stand at the start of `out`, and every later byte of `out`
- * keeps its value.
+ * keeps its value. They are accepted as a tree alone, and tidied again they are
+ * the same bytes; MARKER_RECORD * n is tree_len exactly where the tree was tidy.
  *
  * Or returns MARKER_BEYOND + N where it is refused with N, and every byte of
  * `out` keeps its value: 10 to 14 for the tree, then 2 where out_len is below

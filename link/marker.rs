@@ -204,7 +204,9 @@ pub fn emptiable(tree: &[u8]) -> Result<bool, Refusal> {
 
 /// Tidies a tree into `out` and gives its new record count n. The tidied tree
 /// is `out[..RECORD * n]`, which is no longer than `tree`; every later byte of
-/// `out` keeps its value. Refused with 10 to 14, then with 2 where `out` is
+/// `out` keeps its value. It is accepted as a tree alone, and tidied again it is
+/// the same bytes; n is the record count of `tree` exactly where that was tidy.
+/// Refused with 10 to 14, then with 2 where `out` is
 /// shorter than `tree`, and then every byte of `out` keeps its value.
 pub fn tidy(tree: &[u8], out: &mut [u8]) -> Result<usize, Refusal> {
     let (lent, len) = (out.as_mut_ptr(), out.len());

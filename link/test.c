@@ -291,6 +291,14 @@ static void test_tidying(void)
           marker_tidy(tree, sizeof tree, NULL, 0));
     check("tidy: the tree comes back unchanged", 0,
           (uint64_t)(memcmp(copy, tree, sizeof tree) != 0));
+
+    check("tidied again, exact", 3, marker_tidy(tidied, sizeof tidied, lend(), sizeof tidied));
+    check_lent("tidied again, exact: out", tidied, sizeof tidied);
+    check("tidied again, longer", 3, marker_tidy(tidied, sizeof tidied, lend(), ROOM));
+    check_lent("tidied again, longer: out", tidied, sizeof tidied);
+    check("tidied again, one byte short", MARKER_BEYOND + MARKER_REFUSAL_BUFFER,
+          marker_tidy(tidied, sizeof tidied, lend(), sizeof tidied - 1));
+    check_lent("tidied again, one byte short: out", NULL, 0);
 }
 
 /* The items of S[a,C[b],w]: one record, two and one. */

@@ -255,22 +255,24 @@ fn starting_with(bytes: &[u8], length: usize) -> Vec<u8> {
     out
 }
 
-/// S(2,3)[C[a,b]] becomes C(2,3)[a,b].
+/// S(2,3)[C[a,b]] becomes C(2,3)[a,b], and that stays as it is.
 #[test]
 fn tidying() {
     let items = [once(ELEMENT, 0, 0), once(ELEMENT, 1, 0)].concat();
     let groups = [record(SEQUENCE, 0, 1, 2, Some(3)), once(CHOICE, 0, 2)].concat();
     let tree = [groups, items.clone()].concat();
     let tidied = [record(CHOICE, 0, 2, 2, Some(3)).to_vec(), items].concat();
-    for length in [tree.len(), tree.len() + 1, tree.len() + RECORD] {
-        let mut out = pattern(length);
-        assert_eq!(tidy(&tree, &mut out), Ok(3));
-        assert_eq!(out, starting_with(&tidied, length));
-    }
-    for length in [0, tidied.len(), tree.len() - 1] {
-        let mut out = pattern(length);
-        assert_eq!(tidy(&tree, &mut out), Err(Refusal::BUFFER));
-        assert_eq!(out, pattern(length));
+    for given in [&tree, &tidied] {
+        for length in [given.len(), given.len() + 1, given.len() + RECORD] {
+            let mut out = pattern(length);
+            assert_eq!(tidy(given, &mut out), Ok(3));
+            assert_eq!(out, starting_with(&tidied, length));
+        }
+        for length in [0, tidied.len() - 1, given.len() - 1] {
+            let mut out = pattern(length);
+            assert_eq!(tidy(given, &mut out), Err(Refusal::BUFFER));
+            assert_eq!(out, pattern(length));
+        }
     }
 }
 
