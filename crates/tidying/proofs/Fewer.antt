@@ -3,12 +3,11 @@ use mathlib.Core.Logic.{_⊎_, inl, inr, ⊎-elim, _↔_}
 use mathlib.Core.Path.{_≡_, refl, ap, ap₂}
 use Prim.Native.Nat.{_<_}
 use native.Mathlib.Omega.{arith}
-use Rattle.particle.specs.Occurs.{isOnce}
-use Rattle.particle.specs.Tree.{Head, choice, Items, none, item, Particle, pairOf, single, sizeI}
+use Rattle.particle.specs.Tree.{Head, Items, none, item, Particle, single, sizeI}
 use Rattle.particle.proofs.EncodeParts.{size-then}
-use Rattle.tidying.specs.Tidy.{keep, takesPair, lone, closed, settle, tidyItems, tidy}
+use Rattle.tidying.specs.Tidy.{keep, closed, settle, tidyItems, tidy}
 use Rattle.tidying.specs.TidyTree.{TidyTree}
-use Rattle.tidying.proofs.Steps.{branch, settle-cases, keep-cases}
+use Rattle.tidying.proofs.Steps.{settle-cases, closed-cases, keep-cases}
 use Rattle.tidying.proofs.Shape.{left-alone}
 
 -- x has fewer records than y, or is y
@@ -36,12 +35,10 @@ keep-fewer g x rest = keep-cases (λ (y : Items). Fewer y (item (x .head) (x .it
 
 closed-fewer : (g : Head) (t : Items) → FewerTree (closed g t) (record { head = g; items = t })
 unfolding sizeI
-closed-fewer g none = inr refl
-closed-fewer g (item h k none) =
-    let C : Particle → Type 0 = λ x. FewerTree x (record { head = g; items = item h k none }) in
-    branch C (isOnce (pairOf g)) (record { head = h; items = k }) (lone g h k) (λ _. inl (omega arith))
-    (λ _. branch C (takesPair g h) (record { head = choice (pairOf g); items = k }) (record { head = g; items = item h k none }) (λ _. inl (omega arith)) (λ _. inr refl))
-closed-fewer g (item h k (item h′ k′ r)) = inr refl
+closed-fewer g t =
+    closed-cases (λ (x : Particle). FewerTree x (record { head = g; items = t })) g t (inr refl)
+    (λ h k e _. inl (omega (arith, ap sizeI e)))
+    (λ h k e _. inl (omega (arith, ap sizeI e)))
 
 -- a group over fewer items
 over : (h : Head) (k t : Items) → Fewer t k → FewerTree (closed h t) (record { head = h; items = k })

@@ -5,9 +5,9 @@ use mathlib.Core.Path.{_≡_}
 use Rattle.particle.specs.Occurs.{isZero, isOnce}
 use Rattle.particle.specs.Tree.{Head, choice, Items, none, item, Particle, pairOf, fold}
 use Rattle.language.specs.Premises.{Every, BelowRoot, Throughout}
-use Rattle.tidying.specs.Tidy.{splices, keep, takesPair, lone, closed, settle, tidyItems, tidy}
+use Rattle.tidying.specs.Tidy.{splices, keep, takesPair, closed, settle, tidyItems, tidy}
 use Rattle.tidying.specs.TidyTree.{Group}
-use Rattle.tidying.proofs.Steps.{branch, settle-cases, keep-cases, fold-then}
+use Rattle.tidying.proofs.Steps.{settle-cases, closed-cases, keep-cases, fold-then}
 
 -- what f makes of a tree
 abbrev pub valueOf {ℓ} : {A : Type ℓ} → (Head → List A → A) → Particle → A
@@ -41,21 +41,12 @@ module _ {ℓ} {A : Type ℓ} {P : Head → Items → Type 0} {f : Head → List
       (λ e. rw (fold-then f (x .items) rest) (L .spliced g (x .head) (x .items) e p before (fold f rest)))
       (λ _ _. L .itself _)
 
-  lone-value : (g h : Head) (k : Items) → valueOf f (lone g h k) ≲ f g (f h (fold f k) ∷ [])
-  unfolding fold
-  lone-value g h k =
-      branch (λ (x : Particle). valueOf f x ≲ f g (f h (fold f k) ∷ [])) (takesPair g h) (record { head = choice (pairOf g); items = k }) (record { head = g; items = item h k none })
-      (λ e. L .paired g h e (fold f k))
-      (λ _. L .itself _)
-
   closed-value : (g : Head) → Group g → (t : Items) → valueOf f (closed g t) ≲ f g (fold f t)
   unfolding fold
-  closed-value g s none = L .itself _
-  closed-value g s (item h k none) =
-      branch (λ (x : Particle). valueOf f x ≲ f g (f h (fold f k) ∷ [])) (isOnce (pairOf g)) (record { head = h; items = k }) (lone g h k)
-      (λ e. L .placed g s e (f h (fold f k)))
-      (λ _. lone-value g h k)
-  closed-value g s (item h k (item h′ k′ r)) = L .itself _
+  closed-value g s t =
+      closed-cases (λ (x : Particle). valueOf f x ≲ f g (fold f t)) g t (L .itself _)
+      (λ h k e o. rw e (L .placed g s o (f h (fold f k))))
+      (λ h k e p. rw e (L .paired g h p (fold f k)))
 
   -- a record, where what a group keeps of its items makes what they make
   settle-value : (h : Head) (k t : Items) → (Group h → f h (fold f t) ≲ f h (fold f k)) → valueOf f (settle h k t) ≲ f h (fold f k)

@@ -1,16 +1,16 @@
 -- What holds of each record of a tree and still holds of each record of the tidied tree: the premises of demand 3 among it. Assumes nothing.
-use mathlib.Core.Path.{_≡_, refl}
+use mathlib.Core.Path.{_≡_, refl, subst}
 use Prim.Native.Nat.{ℕ}
 use native.Mathlib.Omega.{arith}
 use Rattle.particle.specs.declared.Occurs.{Occurs}
-use Rattle.particle.specs.Occurs.{exactly, isOnce}
+use Rattle.particle.specs.Occurs.{exactly}
 use Rattle.particle.specs.Tree.{Head, sequence, choice, Items, none, item, Particle, pairOf, _then_}
 use Rattle.language.specs.Premises.{Every, Throughout, Ordered, NoZeroMaximum, NoEmptyChoice}
 use Rattle.language.proofs.Premises.{throughout-map, throughout-both}
 use Rattle.language.proofs.Rounds.{once-is}
-use Rattle.tidying.specs.Tidy.{keep, takesPair, lone, closed, settle, tidyItems, tidy}
+use Rattle.tidying.specs.Tidy.{keep, closed, settle, tidyItems, tidy}
 use Rattle.tidying.specs.TidyTree.{Group}
-use Rattle.tidying.proofs.Steps.{branch, group-cases, settle-cases, keep-cases, splices-cases, takes-cases, zero-is}
+use Rattle.tidying.proofs.Steps.{group-cases, settle-cases, closed-cases, keep-cases, splices-cases, takes-cases, zero-is}
 
 -- The law ------------------------------------------------------------------------------
 
@@ -25,16 +25,11 @@ module _ (P : Head → Items → Type 0) (kept : (g : Head) → Group g → (h :
   keep-every : (g : Head) (x : Particle) (rest : Items) → Throughout P x → Every P rest → Every P (keep g x rest)
   keep-every g x rest p ps = keep-cases (Every P) g x rest (λ _. ps) (λ _. every-then (x .items) rest (p .1) ps) (λ _ _. (p, ps))
 
-  lone-each : (g h : Head) (k : Items) → P g (item h k none) → Throughout P (record { head = h; items = k }) → Throughout P (lone g h k)
-  lone-each g h k a (b, ps) =
-      branch (Throughout P) (takesPair g h) (record { head = choice (pairOf g); items = k }) (record { head = g; items = item h k none })
-      (λ e. (takes-cases (λ (g h : Head). P g (item h k none) → P h k → P (choice (pairOf g)) k) (λ q p o. rw (once-is p o) (taken q k)) g h e a b, ps))
-      (λ _. (a, ((b, ps), tt)))
-
   closed-each : (g : Head) (t : Items) → P g t → Every P t → Throughout P (closed g t)
-  closed-each g none a ps = (a, tt)
-  closed-each g (item h k none) a (w, ps) = branch (Throughout P) (isOnce (pairOf g)) (record { head = h; items = k }) (lone g h k) (λ _. w) (λ _. lone-each g h k a w)
-  closed-each g (item h k (item h′ k′ r)) a ps = (a, ps)
+  closed-each g t a ps =
+      let one : (h : Head) (k : Items) → t ≡ item h k none → Throughout P (record { head = h; items = k }) = λ h k e. subst (Every P) e ps .0 in
+      closed-cases (Throughout P) g t (a, ps) (λ h k e _. one h k e)
+      (λ h k e p. (takes-cases (λ (g h : Head). P g (item h k none) → P h k → P (choice (pairOf g)) k) (λ q p o. rw (once-is p o) (taken q k)) g h p (subst (P g) e a) (one h k e .0), one h k e .1))
 
   settle-each : (h : Head) (k t : Items) → Throughout P (record { head = h; items = k }) → Every P t → (Group h → P h k → P h t) → Throughout P (settle h k t)
   settle-each h k t w ps f = settle-cases (Throughout P) h k t (λ _. w) (λ s. closed-each h t (f s (w .0)) ps)

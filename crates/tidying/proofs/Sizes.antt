@@ -3,11 +3,10 @@ use mathlib.Core.Path.{_≡_, refl}
 use Prim.Native.Nat.{ℕ, suc, _+_, _≤_, max}
 use native.Mathlib.Nat.{le-refl, le-trans}
 use native.Mathlib.Omega.{arith}
-use Rattle.particle.specs.Occurs.{isOnce}
-use Rattle.particle.specs.Tree.{Head, choice, Items, none, item, Particle, pairOf, single, sizeI, _then_}
-use Rattle.tidying.specs.Tidy.{keep, takesPair, lone, closed, settle, tidyItems, tidy}
+use Rattle.particle.specs.Tree.{Head, Items, none, item, Particle, single, sizeI, _then_}
+use Rattle.tidying.specs.Tidy.{keep, closed, settle, tidyItems, tidy}
 use Rattle.tidying.specs.Depth.{depthOf}
-use Rattle.tidying.proofs.Steps.{branch, settle-cases, keep-cases}
+use Rattle.tidying.proofs.Steps.{settle-cases, closed-cases, keep-cases}
 
 -- a measure of rows, that c makes of the first tree's items and of the later trees, and that does not grow where a tree's items stand in its place
 pub record Measure (m : Items → ℕ) (c : ℕ → ℕ → ℕ) : Type 0 where
@@ -23,13 +22,9 @@ module _ {m : Items → ℕ} {c : ℕ → ℕ → ℕ} (M : Measure m c) where
       keep-cases (λ (y : Items). m y ≤ c (m (x .items)) (m rest)) g x rest (λ _. M .right (m (x .items)) (m rest)) (λ _. M .both (x .items) rest) (λ _ _. rw (M .first (x .head) (x .items) rest) (le-refl _))
 
   closed-least : (g : Head) (t : Items) → m (closed g t .items) ≤ m t
-  closed-least g none = le-refl _
-  closed-least g (item h k none) =
-      let C : Particle → Type 0 = λ x. m (x .items) ≤ m (item h k none) in
-      let inner : m k ≤ m (item h k none) = rw (M .first h k none) (M .left (m k) (m none)) in
-      branch C (isOnce (pairOf g)) (record { head = h; items = k }) (lone g h k) (λ _. inner)
-      (λ _. branch C (takesPair g h) (record { head = choice (pairOf g); items = k }) (record { head = g; items = item h k none }) (λ _. inner) (λ _. le-refl _))
-  closed-least g (item h k (item h′ k′ r)) = le-refl _
+  closed-least g t =
+      let inner : (h : Head) (k : Items) → t ≡ item h k none → m k ≤ m t = λ h k e. rw (e, M .first h k none) (M .left (m k) (m none)) in
+      closed-cases (λ (x : Particle). m (x .items) ≤ m t) g t (le-refl _) (λ h k e _. inner h k e) (λ h k e _. inner h k e)
 
   settle-least : (h : Head) (k t : Items) → m t ≤ m k → m (settle h k t .items) ≤ m k
   settle-least h k t e = settle-cases (λ (x : Particle). m (x .items) ≤ m k) h k t (λ _. le-refl _) (λ _. le-trans (closed-least h t) e)

@@ -6,15 +6,14 @@ use Prim.Native.Nat.{ℕ, _*_, _≤_}
 use native.Mathlib.Nat.{mul-zero}
 use native.Mathlib.Omega.{arith}
 use Rattle.particle.specs.declared.Occurs.{Occurs}
-use Rattle.particle.specs.Occurs.{isOnce}
-use Rattle.particle.specs.Tree.{Head, choice, Items, none, item, Particle, pairOf, single, sizeI, fold, _then_}
+use Rattle.particle.specs.Tree.{Head, Items, none, item, Particle, pairOf, single, sizeI, fold, _then_}
 use Rattle.particle.specs.Empty.{optional, emptiable}
 use Rattle.totals.specs.Exact.{sum, span, exactFrom, exactTotal}
 use Rattle.totals.proofs.Standard.{emptiable-exact}
 use Rattle.language.specs.Premises.{BelowRoot, Ordered}
-use Rattle.tidying.specs.Tidy.{splices, keep, takesPair, lone, closed, settle, tidyItems, tidy}
+use Rattle.tidying.specs.Tidy.{splices, keep, closed, settle, tidyItems, tidy}
 use Rattle.tidying.specs.TidyTree.{Group}
-use Rattle.tidying.proofs.Steps.{branch, group-cases, settle-cases, keep-cases, splices-cases, zero-min}
+use Rattle.tidying.proofs.Steps.{group-cases, settle-cases, closed-cases, keep-cases, splices-cases, zero-min}
 use Rattle.tidying.proofs.Ranges.{same-range}
 use Rattle.tidying.proofs.TotalsKept.{placed, paired, never-min, tidy-exact-max}
 
@@ -49,8 +48,12 @@ module _ (g : Head) (s : Group g) (h : Head) where
   closed-one : Same (closed g (item h none none))
   unfolding exactTotal fold
   closed-one =
-      branch Same (isOnce (pairOf g)) (record { head = h; items = none }) (lone g h none) (λ o. ap (λ (t : Occurs). t .min) (sym (placed g s o (exactFrom h []))))
-      (λ _. branch Same (takesPair g h) (record { head = choice (pairOf g); items = none }) (record { head = g; items = item h none none }) (λ e. ap (λ (t : Occurs). t .min) (sym (paired [] g h e))) (λ _. refl))
+      closed-cases Same g (item h none none) refl
+      (λ h′ k e o. ap (λ (t : Occurs). t .min) (sym (placed g s o (exactFrom h′ (fold exactFrom k)))) ∙ over e)
+      (λ h′ k e p. ap (λ (t : Occurs). t .min) (sym (paired (fold exactFrom k) g h′ p)) ∙ over e)
+    where
+      over : {x : Items} → item h none none ≡ x → exactFrom g (fold exactFrom x) .min ≡ exactFrom g (exactFrom h [] ∷ []) .min
+      over e = ap (λ (x : Items). exactFrom g (fold exactFrom x) .min) (sym e)
 
   one-item : Ordered h none → Same (closed g (keep g (record { head = h; items = none }) none))
   unfolding exactTotal fold _then_

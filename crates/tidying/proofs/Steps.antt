@@ -10,7 +10,7 @@ use Rattle.particle.specs.declared.Occurs.{Occurs}
 use Rattle.particle.specs.Occurs.{isZero, isOnce}
 use Rattle.particle.specs.Tree.{Head, element, wildcard, sequence, choice, all, Items, none, item, Particle, pairOf, fold, _then_}
 use Rattle.language.specs.Language.{AtMost}
-use Rattle.tidying.specs.Tidy.{splices, put, keep, takesPair, closed, settle}
+use Rattle.tidying.specs.Tidy.{splices, put, keep, takesPair, lone, closed, settle}
 use Rattle.tidying.specs.TidyTree.{Group}
 
 -- what holds on either side of a test holds of what it chooses
@@ -33,6 +33,16 @@ settle-cases C (wildcard l p) k t f g = f (λ e. e)
 settle-cases C (sequence p) k t f g = g tt
 settle-cases C (choice p) k t f g = g tt
 settle-cases C (all p) k t f g = f (λ e. e)
+
+-- a group is as it is over its items, or its one item takes its place or its pair
+pub closed-cases {ℓ} : (C : Particle → Type ℓ) (g : Head) (t : Items) → C (record { head = g; items = t })
+    → ((h : Head) (k : Items) → t ≡ item h k none → isOnce (pairOf g) ≡ true → C (record { head = h; items = k }))
+    → ((h : Head) (k : Items) → t ≡ item h k none → takesPair g h ≡ true → C (record { head = choice (pairOf g); items = k })) → C (closed g t)
+closed-cases C g none same placed paired = same
+closed-cases C g (item h k none) same placed paired =
+    branch C (isOnce (pairOf g)) (record { head = h; items = k }) (lone g h k) (placed h k refl)
+    (λ _. branch C (takesPair g h) (record { head = choice (pairOf g); items = k }) (record { head = g; items = item h k none }) (paired h k refl) (λ _. same))
+closed-cases C g (item h k (item h′ k′ r)) same placed paired = same
 
 -- of an item a group keeps nothing, its items, or the item itself
 pub keep-cases {ℓ} : (C : Items → Type ℓ) (g : Head) (x : Particle) (rest : Items) → (isZero (pairOf (x .head) .max) ≡ true → C rest)

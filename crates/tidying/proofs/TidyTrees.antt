@@ -7,7 +7,7 @@ use Rattle.particle.specs.Occurs.{isZero, isOnce}
 use Rattle.particle.specs.Tree.{Head, choice, Items, none, item, Particle, pairOf, single, countI, _then_}
 use Rattle.tidying.specs.Tidy.{splices, put, keep, takesPair, lone, closed, settle, tidyItems, tidy}
 use Rattle.tidying.specs.TidyTree.{Group, EachItem}
-use Rattle.tidying.proofs.Steps.{branch, settle-cases, keep-cases, splices-cases, takes-cases}
+use Rattle.tidying.proofs.Steps.{branch, settle-cases, closed-cases, keep-cases, splices-cases, takes-cases}
 
 -- none of the trees has maximum 0
 abbrev pub NoZero : Items → Type 0
@@ -107,12 +107,10 @@ tidied-each x = settle-tidy (x .head) (x .items) (tidyItems (x .head) (x .items)
 
 closed-same : (g : Head) (t : Items) → TidyGroup g t → closed g t ≡ record { head = g; items = t }
 unfolding countI
-closed-same g none a = refl
-closed-same g (item h k none) a =
-    let C : Particle → Type 0 = λ x. x ≡ record { head = g; items = item h k none } in
-    branch C (isOnce (pairOf g)) (record { head = h; items = k }) (lone g h k) (λ o. absurd (a .notAlone o refl))
-    (λ _. branch C (takesPair g h) (record { head = choice (pairOf g); items = k }) (record { head = g; items = item h k none }) (λ e. absurd (not-both (takesPair g h) e (a .notPaired h k refl))) (λ _. refl))
-closed-same g (item h k (item h′ k′ r)) a = refl
+closed-same g t a =
+    closed-cases (λ (x : Particle). x ≡ record { head = g; items = t }) g t refl
+    (λ h k e o. absurd (a .notAlone o (ap countI e)))
+    (λ h k e p. absurd (not-both (takesPair g h) p (a .notPaired h k e)))
 
 settle-same : (h : Head) (k : Items) → (Group h → TidyGroup h k × (tidyItems h k ≡ k)) → settle h k (tidyItems h k) ≡ record { head = h; items = k }
 settle-same h k f = settle-cases (λ (x : Particle). x ≡ record { head = h; items = k }) h k (tidyItems h k) (λ _. refl) (λ s. ap (closed h) (f s .1) ∙ closed-same h k (f s .0))
