@@ -15,7 +15,7 @@ const LEVELS_SIZE: usize = 1;
 const COUNT_SIZE: usize = 2;
 
 // How many trees a chain has, and how many records these have.
-#[derive(Drop)]
+#[derive(Clone, Copy)]
 pub struct Content {
     pub trees: usize,
     pub records: usize,

@@ -20,7 +20,7 @@ use particle::{MAX_RECORDS, RECORD_SIZE};
 const CAPACITY: usize = RECORD_SIZE * MAX_RECORDS;
 
 // What joining a chain is answered by: the joined tree's record count, or that no level has content.
-#[derive(Drop)]
+#[derive(Clone, Copy)]
 pub enum JoinedAnswer {
     Records(usize),
     NoContent,

@@ -15,14 +15,14 @@ use intake::{Checked, Refusal};
 use totals::TotalRange;
 
 // What the total range of a tree alone is answered by.
-#[derive(Drop)]
+#[derive(Clone, Copy)]
 pub enum TotalAnswer {
     Total(TotalRange),
     Refused(Refusal),
 }
 
 // What 'emptiable' of a tree alone is answered by.
-#[derive(Drop)]
+#[derive(Clone, Copy)]
 pub enum EmptiableAnswer {
     Yes,
     No,
@@ -30,7 +30,7 @@ pub enum EmptiableAnswer {
 }
 
 // What tidying a tree alone is answered by: the tidied tree's record count.
-#[derive(Drop)]
+#[derive(Clone, Copy)]
 pub enum TidiedAnswer {
     Records(usize),
     Refused(Refusal),

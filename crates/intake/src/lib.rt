@@ -10,7 +10,7 @@ ghost use Rattle.intake.specs.Number.{fault_place, refusal_number};
 use particle::Record;
 
 // What is wrong with a tree, in the order in which a record is checked.
-#[derive(Drop)]
+#[derive(Clone, Copy)]
 pub enum Fault {
     Fields,
     Pair,
@@ -20,7 +20,7 @@ pub enum Fault {
 }
 
 // Why a sheet, a tree, a chain, a type number, a table of types or a buffer is turned away.
-#[derive(Drop)]
+#[derive(Clone, Copy)]
 pub enum Refusal {
     Contents,
     Buffer,
@@ -35,7 +35,7 @@ pub enum Refusal {
 }
 
 // What the check of a tree finds.
-#[derive(Drop)]
+#[derive(Clone, Copy)]
 pub enum Checked {
     Accepted,
     Refused(Fault),

@@ -21,7 +21,7 @@ const ROOM: usize = 65536;
 const WORD: usize = 6;
 
 // What the arguments ask for.
-#[derive(Drop)]
+#[derive(Clone, Copy)]
 enum Task {
     One,
     Many,
@@ -29,7 +29,7 @@ enum Task {
 }
 
 // What came of reading the next of many sheets.
-#[derive(Drop)]
+#[derive(Clone, Copy)]
 enum Outcome {
     Marked,
     CutOff,

@@ -28,7 +28,7 @@ const SHORT: usize = 256;
 const MIDDLE: usize = 2048;
 
 // What marking a sheet is answered by.
-#[derive(Drop)]
+#[derive(Clone, Copy)]
 pub enum MarkAnswer {
     Passes,
     Undecided,

@@ -7,7 +7,7 @@ ghost use Rattle.particle.specs.Empty.{every_or_some, emptiable_from, emptiable}
 use crate::{CHOICE, SEQUENCE, items, later, record_at};
 
 // Whether the first tree of t is emptiable.
-#[cycle(emptiable_items_emptiable)]
+#[cycle(emptiable)]
 pub fn emptiable(t: &[u8]) -> bool
     requires { Row 1 t.now }
     ensures { result ≡ emptiable (tree t.now) }
@@ -30,7 +30,7 @@ pub fn emptiable(t: &[u8]) -> bool
 }
 
 // Whether each of the first n trees of t is emptiable; without `each`, whether one of them is.
-#[cycle(emptiable_items_emptiable)]
+#[cycle(emptiable)]
 fn items_emptiable(t: &[u8], n: usize, each: bool) -> bool
     requires { Row n t.now }
     ensures { result ≡ every_or_some each (fold emptiable_from (row n t.now)) }

@@ -50,21 +50,21 @@ pub const CHOICE: u8 = 3;
 pub const ALL: u8 = 4;
 
 // A maximum: a number or unbounded.
-#[derive(Drop)]
+#[derive(Clone, Copy)]
 pub enum MaxOccurs {
     Bounded(u32),
     Unbounded,
 }
 
 // An occurrence pair.
-#[derive(Drop)]
+#[derive(Clone, Copy)]
 pub struct Occurs {
     pub min: u32,
     pub max: MaxOccurs,
 }
 
 // One record, taken apart. `zero` and `size` are its three zero bytes; a measured tree has its notes there (measured.rt).
-#[derive(Drop)]
+#[derive(Clone, Copy)]
 pub struct Record {
     pub kind: u8,
     pub leaf: u8,

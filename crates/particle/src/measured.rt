@@ -15,7 +15,7 @@ use crate::{
 const EMPTIABLE: u8 = 1;
 
 // What the trees of a row are found to be: how many bytes they take, and whether each, and whether one, is emptiable.
-#[derive(Drop)]
+#[derive(Clone, Copy)]
 struct Found {
     len: usize,
     every: bool,

@@ -37,7 +37,7 @@ const ROOM: usize = 65536;
 const SHOWN: u64 = 10;
 
 // What a case asks.
-#[derive(Drop)]
+#[derive(Clone, Copy)]
 enum Operation {
     Mark,
     TotalMin,
@@ -53,14 +53,14 @@ enum Operation {
 }
 
 // What an operation's number stands for.
-#[derive(Drop)]
+#[derive(Clone, Copy)]
 enum Asked {
     For(Operation),
     Nothing,
 }
 
 // What came of a case. Where the two numbers are the same, the buffers differ.
-#[derive(Drop)]
+#[derive(Clone, Copy)]
 enum Outcome {
     Agreed,
     Differs { expected: u64, got: u64 },

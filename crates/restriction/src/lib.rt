@@ -31,7 +31,7 @@ use verdicts::{Reason, Verdict};
 
 // The first tree of d against the first of b. With once, an element of d counts with the pair (1,1); with any, a wildcard of b with (0, unbounded).
 // Two elements that the first table keeps apart take no further call.
-#[cycle(any_alternative_by_kinds_element_choice_element_sequence_group_wildcard_choice_marks_element_marks_sequence_marks_recurse_ordered_restrict_same_kind_sequence_choice)]
+#[cycle(restrict)]
 pub fn restrict(
     d: &[u8],
     once: bool,
@@ -60,7 +60,7 @@ pub fn restrict(
 }
 
 // The same by the two kinds, as one number: each selects its rule.
-#[cycle(any_alternative_by_kinds_element_choice_element_sequence_group_wildcard_choice_marks_element_marks_sequence_marks_recurse_ordered_restrict_same_kind_sequence_choice)]
+#[cycle(restrict)]
 fn by_kinds(
     d: &[u8],
     once: bool,
@@ -125,7 +125,7 @@ fn by_kinds(
 }
 
 // The ordered walk: a tree of ds is tried on the trees of bs in turn.
-#[cycle(any_alternative_by_kinds_element_choice_element_sequence_group_wildcard_choice_marks_element_marks_sequence_marks_recurse_ordered_restrict_same_kind_sequence_choice)]
+#[cycle(restrict)]
 fn recurse_ordered(
     ds: &[u8],
     dn: usize,
@@ -184,7 +184,7 @@ fn recurse_ordered(
 }
 
 // The first tree of d against those of bs as alternatives, with the reason where none is left.
-#[cycle(any_alternative_by_kinds_element_choice_element_sequence_group_wildcard_choice_marks_element_marks_sequence_marks_recurse_ordered_restrict_same_kind_sequence_choice)]
+#[cycle(restrict)]
 fn any_alternative(
     d: &[u8],
     once: bool,
@@ -221,7 +221,7 @@ fn any_alternative(
 }
 
 // Sequence against sequence, or choice against choice, which is lax: range, ordered walk.
-#[cycle(any_alternative_by_kinds_element_choice_element_sequence_group_wildcard_choice_marks_element_marks_sequence_marks_recurse_ordered_restrict_same_kind_sequence_choice)]
+#[cycle(restrict)]
 fn same_kind(
     ds: &[u8],
     dn: usize,
@@ -250,7 +250,7 @@ fn same_kind(
 
 // Element against sequence. An element that counts once has one mark: both readings walk it in the same way, and where its pair isn't
 // within the base's both fail. Any other has two, which one pass gives.
-#[cycle(any_alternative_by_kinds_element_choice_element_sequence_group_wildcard_choice_marks_element_marks_sequence_marks_recurse_ordered_restrict_same_kind_sequence_choice)]
+#[cycle(restrict)]
 fn element_sequence(
     d: &[u8],
     once: bool,
@@ -276,7 +276,7 @@ fn element_sequence(
 }
 
 // Element against choice, in the same way: of one that counts once both readings ask the same of each alternative.
-#[cycle(any_alternative_by_kinds_element_choice_element_sequence_group_wildcard_choice_marks_element_marks_sequence_marks_recurse_ordered_restrict_same_kind_sequence_choice)]
+#[cycle(restrict)]
 fn element_choice(
     d: &[u8],
     once: bool,
@@ -305,7 +305,7 @@ fn element_choice(
 }
 
 // Group against wildcard: total range, then each member against the wildcard with pair (0, unbounded).
-#[cycle(any_alternative_by_kinds_element_choice_element_sequence_group_wildcard_choice_marks_element_marks_sequence_marks_recurse_ordered_restrict_same_kind_sequence_choice)]
+#[cycle(restrict)]
 fn group_wildcard(
     group: &[u8],
     ds: &[u8],
@@ -346,7 +346,7 @@ fn group_wildcard(
 }
 
 // Sequence against choice: pair times item count, then each member against the alternatives.
-#[cycle(any_alternative_by_kinds_element_choice_element_sequence_group_wildcard_choice_marks_element_marks_sequence_marks_recurse_ordered_restrict_same_kind_sequence_choice)]
+#[cycle(restrict)]
 fn sequence_choice(
     ds: &[u8],
     dn: usize,

@@ -22,14 +22,14 @@ use particle::Occurs;
 use verdicts::{Reason, Verdict};
 
 // The marks of an element counting once and with its own pair.
-#[derive(Drop)]
+#[derive(Clone, Copy)]
 pub struct Marks {
     pub once: Verdict,
     pub own: Verdict,
 }
 
 // Where the walk of one element over base items stands: it goes on, or it has come to a mark.
-#[derive(Drop)]
+#[derive(Clone, Copy)]
 pub enum Standing {
     On,
     Ended(Verdict),
@@ -155,7 +155,7 @@ pub fn walked(within: bool, once: Standing, own: Standing) -> Marks
 }
 
 // Both marks of the element d against the first tree of b: counting once, and with its own pair p.
-#[cycle(any_alternative_by_kinds_element_choice_element_sequence_group_wildcard_choice_marks_element_marks_sequence_marks_recurse_ordered_restrict_same_kind_sequence_choice)]
+#[cycle(restrict)]
 fn element_marks(
     d: &[u8],
     leaf: u8,
@@ -188,7 +188,7 @@ fn element_marks(
 
 // The same against a sequence: two walks over its items, of the element once and of the element with its own pair. The first of them is
 // the mark of the element that counts once, and the wrapped reading of the other.
-#[cycle(any_alternative_by_kinds_element_choice_element_sequence_group_wildcard_choice_marks_element_marks_sequence_marks_recurse_ordered_restrict_same_kind_sequence_choice)]
+#[cycle(restrict)]
 pub fn sequence_marks(
     d: &[u8],
     leaf: u8,
@@ -234,7 +234,7 @@ pub fn sequence_marks(
 
 // The same against a choice. The wrapped reading is the lax walk, which ends at the first alternative that does not fail; the other
 // reading, and the element that counts once, go on after an undecided one.
-#[cycle(any_alternative_by_kinds_element_choice_element_sequence_group_wildcard_choice_marks_element_marks_sequence_marks_recurse_ordered_restrict_same_kind_sequence_choice)]
+#[cycle(restrict)]
 pub fn choice_marks(
     d: &[u8],
     leaf: u8,

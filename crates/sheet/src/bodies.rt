@@ -12,7 +12,7 @@ const LAST_VERDICT: u8 = 152;
 const LAST_PLACE: u8 = 117;
 
 // One leaf, taken apart: kind, process contents, local name number.
-#[derive(Drop)]
+#[derive(Clone, Copy)]
 pub struct Leaf {
     pub kind: u8,
     pub process: u8,

@@ -14,7 +14,7 @@ use intake::{Checked, Refusal};
 pub use layout::{base, derived, leaf_count, leaves, second_at, second_end, tables};
 
 // What the check of a sheet finds.
-#[derive(Drop)]
+#[derive(Clone, Copy)]
 pub enum SheetChecked {
     Accepted,
     Refused(Refusal),

@@ -19,14 +19,14 @@ use particle::Record;
 const CAPACITY: usize = particle::RECORD_SIZE * particle::MAX_RECORDS;
 
 // What tidying a tree leaves: how many bytes of it were read, and where its records end in the buffer.
-#[derive(Drop)]
+#[derive(Clone, Copy)]
 struct Written {
     read: usize,
     end: usize,
 }
 
 // The items that a group keeps: how many, and where their records end.
-#[derive(Drop)]
+#[derive(Clone, Copy)]
 struct Kept {
     count: usize,
     end: usize,
@@ -165,7 +165,7 @@ fn copy_tree(t: &[u8], out: &mut [u8], at: usize) -> Written
 }
 
 // The first tree of t, tidied, into out from `at` on. A tree without items is tidy.
-#[cycle(tidy_items_tidy_tree)]
+#[cycle(tidy)]
 fn tidy_tree(t: &[u8], out: &mut [u8], at: usize) -> Written
     requires { Room t.now 1 out.old at }
     ensures { Writes t.now out.old out.new at (tidied t.now) result }
@@ -182,7 +182,7 @@ fn tidy_tree(t: &[u8], out: &mut [u8], at: usize) -> Written
 }
 
 // The same for a tree with the record g: each item is tidied after those that g keeps, and g's record is written last.
-#[cycle(tidy_items_tidy_tree)]
+#[cycle(tidy)]
 fn tidy_items(g: Record, t: &[u8], out: &mut [u8], at: usize) -> Written
     requires g_value { g ≡ record_at t.now }
     requires room { Room t.now 1 out.old at }

@@ -16,7 +16,7 @@ pub use ranges::{TotalMax, TotalMin, TotalRange, product_max, product_min, total
 // The total range of the first tree of t. It goes as the W3C text goes (3.8.6, Effective Total Range): all and sequence, then choice; of each the
 // minimum, then the maximum, in which order `ranges` works both. A leaf, of which that text doesn't speak, has its own pair.
 // Where t is measured, each record is read once.
-#[cycle(effective_total_range_span_of_sum_of)]
+#[cycle(total)]
 pub fn effective_total_range(t: &[u8], measured: bool) -> TotalRange
     requires row { Row 1 t.now }
     requires run_if { RunIf measured 1 t.now }
@@ -50,7 +50,7 @@ pub fn total_within(t: &[u8], q: Occurs) -> bool
 
 // All and sequence: the sum of the total ranges of the first n trees of t. An element or wildcard counts by its own pair; only a group is asked by a
 // call, so that calls nest once a level.
-#[cycle(effective_total_range_span_of_sum_of)]
+#[cycle(total)]
 fn sum_of(t: &[u8], n: usize, measured: bool) -> TotalRange
     requires row { Row n t.now }
     requires run_if { RunIf measured n t.now }
@@ -75,7 +75,7 @@ fn sum_of(t: &[u8], n: usize, measured: bool) -> TotalRange
 }
 
 // Choice: the least minimum and the greatest maximum among the total ranges of the first n trees of t, in the same way, from the first tree's on.
-#[cycle(effective_total_range_span_of_sum_of)]
+#[cycle(total)]
 fn span_of(t: &[u8], n: usize, measured: bool) -> TotalRange
     requires row { Row n t.now }
     requires run_if { RunIf measured n t.now }

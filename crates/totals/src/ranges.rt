@@ -11,14 +11,14 @@ use particle::{MaxOccurs, Occurs};
 const LARGEST: u64 = 4294967295;
 
 // The least number of a total range.
-#[derive(Drop)]
+#[derive(Clone, Copy)]
 pub enum TotalMin {
     Exact(u32),
     TooLarge,
 }
 
 // The greatest number of a total range.
-#[derive(Drop)]
+#[derive(Clone, Copy)]
 pub enum TotalMax {
     Bounded(u32),
     TooLarge,
@@ -26,7 +26,7 @@ pub enum TotalMax {
 }
 
 // A total range.
-#[derive(Drop)]
+#[derive(Clone, Copy)]
 pub struct TotalRange {
     pub min: TotalMin,
     pub max: TotalMax,

@@ -27,7 +27,7 @@ const OK: u8 = 0;
 pub const NOT_DERIVED: u8 = 148;
 
 // What the verdict for two types is answered by.
-#[derive(Drop)]
+#[derive(Clone, Copy)]
 pub enum TypeAnswer {
     Ok,
     NotDerived,
@@ -35,7 +35,7 @@ pub enum TypeAnswer {
 }
 
 // What filling a sheet is answered by.
-#[derive(Drop)]
+#[derive(Clone, Copy)]
 pub enum FilledAnswer {
     Filled,
     Refused(Refusal),

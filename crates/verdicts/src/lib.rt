@@ -27,7 +27,7 @@ const FIRST_SET: u8 = 140;
 const LAST_SET: u8 = 152;
 
 // Why a restriction fails. The number of each, document 01's and document 02's: specs/Reasons.antt.
-#[derive(Drop)]
+#[derive(Clone, Copy)]
 pub enum Reason {
     ElementWildcardRange,
     WildcardElement,
@@ -59,7 +59,7 @@ pub enum Reason {
 }
 
 // Outcome of one comparison.
-#[derive(Drop)]
+#[derive(Clone, Copy)]
 pub enum Verdict {
     Ok,
     Unknown,

@@ -13,7 +13,7 @@ use crate::{AT_NAME, AT_NAME_HIGH, LEAF_SIZE, Reason, Verdict, definite};
 use particle::{MAX_RECORDS, Occurs, Record};
 
 // An untaken base element of a name: none, or the first one's leaf and pair.
-#[derive(Drop)]
+#[derive(Clone, Copy)]
 enum Taken {
     Nothing,
     Element(u8, Occurs),

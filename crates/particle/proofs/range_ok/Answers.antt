@@ -9,8 +9,7 @@ use Rattle.particle.specs.declared.MaxOccurs.{MaxOccurs}
 use Rattle.particle.specs.declared.MaxOccurs.TheVariants.{Bounded, Unbounded}
 use Rattle.particle.specs.declared.Occurs.{Occurs}
 use Rattle.particle.specs.Occurs.{max_ok, range_ok}
-use Rattle.particle.proofs.range_ok.Statement.{statement}
-use Rattle.particle.proofs.range_ok.Tie as tie
+use Rattle.particle.proofs.range_ok.Goals as goal
 
 module _ (d b : Occurs) where
   low : d.min < b.min → false ≡ range_ok d b
@@ -31,15 +30,14 @@ module _ (d b : Occurs) where
     both_bounded : {n m : ℕ} → b.max ≡ Bounded n → d.max ≡ Bounded m → leb m n ≡ range_ok d b
     both_bounded e f = rw (le-leb _ _ l, e, f)
 
-pub range_ok_spec : {M : Type 1} → statement M
-range_ok_spec =
-    tie.close
-    (tie.spec
-    (λ c. search low)
-    (λ c. search rules)
-    (λ c. search rules)
-    (λ c. search rules)
-    (λ c. search rules)
-    (λ c. search base_open)
-    (λ c. search derived_open)
-    (λ c. search both_bounded))
+pub returns-then-d-b : goal.returns-then-d-b
+returns-then-d-b c = search low
+
+pub returns-in-Unbounded : goal.returns-in-Unbounded
+returns-in-Unbounded c = search base_open
+
+pub returns-in-Unbounded-dmax : goal.returns-in-Unbounded-dmax
+returns-in-Unbounded-dmax c = search derived_open
+
+pub returns-in-Bounded-dmax : goal.returns-in-Bounded-dmax
+returns-in-Bounded-dmax c = search both_bounded

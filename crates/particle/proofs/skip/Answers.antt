@@ -10,25 +10,20 @@ use Rattle.particle.specs.Record.{record_size}
 use Rattle.particle.specs.Tree.{records}
 use Rattle.particle.proofs.Laws.{part_is}
 use Rattle.particle.proofs.Records.{length_records, records_drop}
-use Rattle.particle.proofs.skip.Statement.{statement}
-use Rattle.particle.proofs.skip.Tie as tie
+use Rattle.particle.proofs.skip.Goals as goal
 
 within : (n : ℕ) (s : List ℕ) → n ≤ length (records s) → n * record_size ≤ length s
 within n s h = omega (arith, length_records s)
 
-mul_at : tie.Need-overflow-mul-at
-mul_at c = omega (arith, within _ _ c.requires)
+pub overflow_mul-at : goal.overflow_mul-at
+overflow_mul-at c = omega (arith, within _ _ c.requires)
 
-sub_result : tie.Need-overflow-sub-result
-sub_result c = within _ _ c.requires
+pub slice_bounds-result-count : goal.slice_bounds-result-count
+slice_bounds-result-count c = within _ _ c.requires
 
-part_result_start : tie.Need-slice-bounds-result-start
-part_result_start c = within _ _ c.requires
+pub slice_bounds-result-start : goal.slice_bounds-result-start
+slice_bounds-result-start c = within _ _ c.requires
 
-returns : tie.Need-returns
-returns c =
-    let a = c.before.args in
+pub returns : goal.returns
+returns c = let a = c.args in
     ap records (part_is a.t.now (a.n * record_size) ∙ ap (λ (k : ℕ). drop k a.t.now) (mul_comm a.n record_size)) ∙ records_drop a.n a.t.now
-
-pub skip_spec : {M : Type 1} → statement M
-skip_spec = tie.close (tie.spec mul_at sub_result part_result_start (λ c. search rules) returns)
