@@ -18,7 +18,7 @@ use Rattle.totals.specs.Total.{cut, total}
 use Rattle.totals.specs.Cut.{add_cut, span_cut}
 use Rattle.totals.proofs.CutSums.{add_cut_lem, span_cut_lem}
 use Rattle.particle.proofs.Falls.{Part, part_start, part_first, part_next}
-use Rattle.totals.proofs.TotalRange.{totals, leaf_total}
+use Rattle.totals.proofs.FirstTotal.{totals, leaf_total}
 
 same_pair : {m n : ℕ} {a b : MaxOccurs} → m ≡ n → a ≡ b → ◌≡◌ {A = Occurs} (record { min = m; max = a }) (record { min = n; max = b })
 same_pair e f = λ i. record { min = e i; max = f i }

@@ -1,6 +1,6 @@
 pub mod Cuts
 pub mod CutSums
-pub mod TotalRange
+pub mod FirstTotal
 pub mod Gathered
 pub mod Standard
 pub mod Caps

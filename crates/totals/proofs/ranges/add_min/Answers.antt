@@ -1,0 +1,15 @@
+-- `totals::ranges::add_min` meets its contract. Assumes nothing.
+use borrow.Author.Rules.{rules}
+use Rattle.totals.specs.Total.{cut_min}
+use Rattle.totals.specs.Cut.{add_cut_min}
+use Rattle.totals.proofs.Cuts.{of_left, of_both_lem, computed}
+use Rattle.totals.proofs.ranges.add_min.Goals as goal
+
+pub returns-in-TooLarge : goal.returns-in-TooLarge
+returns-in-TooLarge c = search (of_left add_cut_min)
+
+pub returns-in-TooLarge-b : goal.returns-in-TooLarge-b
+returns-in-TooLarge-b c = search (of_both_lem add_cut_min)
+
+pub returns-in-Exact-b : goal.returns-in-Exact-b
+returns-in-Exact-b c = search (of_both_lem add_cut_min, computed cut_min)

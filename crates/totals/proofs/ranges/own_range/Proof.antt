@@ -1,8 +1,0 @@
--- `totals::ranges::own_range` meets its contract: the minimum and the maximum are its callees'. Assumes nothing.
-use borrow.Author.Rules.{rules}
-use Rattle.totals.proofs.Cuts.{same_range}
-use Rattle.totals.proofs.ranges.own_range.Statement.{statement}
-use Rattle.totals.proofs.ranges.own_range.Tie as tie
-
-pub own_range_spec : {M : Type 1} → statement M
-own_range_spec = tie.close (tie.spec (λ c κs. search rules) (λ c κs. search rules) (λ c. search same_range))

@@ -1,0 +1,7 @@
+-- `totals::ranges::times_open` meets its contract. Assumes nothing.
+use borrow.Author.Rules.{rules}
+use Rattle.totals.proofs.Cuts.{times_some}
+use Rattle.totals.proofs.ranges.times_open.Goals as goal
+
+pub returns-else-a-eq0 : goal.returns-else-a-eq0
+returns-else-a-eq0 c = search times_some
