@@ -21,6 +21,7 @@ AllWithin [] X = Unit {0}
 AllWithin (W ∷ Ws) X = (W ⊆ X) × AllWithin Ws X
 
 pub one_of_within : (Ws : List Words) (X : Words) → AllWithin Ws X → OneOf Ws ⊆ X
+one_of_within [] X _ w none = elim none [ ]
 one_of_within (W ∷ Ws) X (f, fs) w (inl x) = f w x
 one_of_within (W ∷ Ws) X (f, fs) w (inr x) = one_of_within Ws X fs w x
 
