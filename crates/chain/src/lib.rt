@@ -71,7 +71,7 @@ fn nest(t: &[u8], n: usize, out: &mut [u8]) -> usize
         i += 1;
     }
     let end = at + t.len();
-    bytes::copy(t, &mut out[at..end]);
+    out[at..end].copy_from_slice(t);
     end
 }
 
@@ -94,7 +94,7 @@ fn join(t: &[u8], n: usize, out: &mut [u8]) -> JoinedAnswer
     if out.len() < end {
         return JoinedAnswer::Refused(Refusal::Buffer);
     }
-    bytes::copy(&work[..end], out);
+    out[..end].copy_from_slice(&work[..end]);
     JoinedAnswer::Records(records)
 }
 

@@ -15,7 +15,7 @@ use Rattle.language.proofs.Premises.{throughout_map}
 use Rattle.tidying.specs.Tidy.{keep, tidy}
 use Rattle.tidying.specs.Depth.{depth_of}
 use Rattle.tidying.specs.TidyTree.{Group, EachItem, EveryOutside, Outside}
-use Rattle.tidying.proofs.Steps.{group-cases}
+use Rattle.tidying.proofs.Steps.{group_cases}
 use Rattle.tidying.proofs.Premises.{tidy_each}
 use Rattle.tidying.proofs.Sizes.{tidy_smaller, tidy_shallower}
 use Rattle.intake.specs.Limits.{max_depth}
@@ -62,7 +62,7 @@ module _ (known : Known) where
 
   group_kept : (g : Head) → Group g → (h : Head) (k r rest : Items) (x : Particle) → FitsAnywhere g (item h k r) → FitsAnywhere x.head x.items → FitsAnywhere g (keep g x rest)
   group_kept g s h k r rest x a b =
-      group-cases (λ (g : Head). FitsAnywhere g (item h k r) → FitsAnywhere g (keep g x rest))
+      group_cases (λ (g : Head). FitsAnywhere g (item h k r) → FitsAnywhere g (keep g x rest))
       (λ p a. record { leaf = tt; pair = a.pair; group = tt; members = any_member (keep (sequence p) x rest) })
       (λ p a. record { leaf = tt; pair = a.pair; group = tt; members = any_member (keep (choice p) x rest) }) g s a
 

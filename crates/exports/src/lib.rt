@@ -195,7 +195,7 @@ pub extern "C" fn marker_item(t: &[u8], k: usize, out: &mut [u8]) -> usize
     let it = entries::item(t, k);
     let n = it.len();
     if n <= out.len() {
-        bytes::copy(it, out);
+        out[..n].copy_from_slice(it);
     }
     n
 }

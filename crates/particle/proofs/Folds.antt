@@ -12,26 +12,26 @@ use Rattle.particle.proofs.Heads.{leaf_kind, choice_kind, ordered_kind}
 use Rattle.particle.proofs.Laws.{row_le, tree_is, items_row, row_is}
 
 -- what f makes of the tree that t starts with
-abbrev pub foldFirst {ℓ} : {A : Type ℓ} → (Head → List A → A) → List ℕ → A
-foldFirst f t = f (tree t).head (fold f (tree t).items)
+abbrev pub fold_first {ℓ} : {A : Type ℓ} → (Head → List A → A) → List ℕ → A
+fold_first f t = f (tree t).head (fold f (tree t).items)
 
 -- r is the first tree's record
 pub items_are : {t : List ℕ} {r : Record} → Row 1 t → r ≡ record_at t → Row r.count (items_part t)
 items_are w e = rw e (items_row w)
 
 module _ {ℓ} {A : Type ℓ} (f : Head → List A → A) {t : List ℕ} {r : Record} (w : Row 1 t) (e : r ≡ record_at t) where
-  pub first_is : foldFirst f t ≡ f (head_of r) (fold f (row r.count (items_part t)))
+  pub first_is : fold_first f t ≡ f (head_of r) (fold f (row r.count (items_part t)))
   first_is = rw (tree_is w, e)
 
   pub first_leaf : ((l : ℕ) (p : Occurs) (xs : List A) → f (wildcard l p) xs ≡ f (element l p) xs) → r.kind < 2
-      → foldFirst f t ≡ f (element r.leaf (range_of r)) (fold f (row r.count (items_part t)))
+      → fold_first f t ≡ f (element r.leaf (range_of r)) (fold f (row r.count (items_part t)))
   first_leaf s k = first_is ∙ leaf_kind (λ h. f h (fold f (row r.count (items_part t)))) r.leaf (range_of r) (s r.leaf (range_of r) _) r.kind k
 
-  pub first_choice : r.kind ≡ 3 → foldFirst f t ≡ f (choice (range_of r)) (fold f (row r.count (items_part t)))
+  pub first_choice : r.kind ≡ 3 → fold_first f t ≡ f (choice (range_of r)) (fold f (row r.count (items_part t)))
   first_choice k = first_is ∙ choice_kind (λ h. f h (fold f (row r.count (items_part t)))) r.leaf (range_of r) r.kind k
 
   pub first_ordered : ((p : Occurs) (xs : List A) → f (all p) xs ≡ f (sequence p) xs) → 2 ≤ r.kind → (r.kind ≡ 3 → ⊥)
-      → foldFirst f t ≡ f (sequence (range_of r)) (fold f (row r.count (items_part t)))
+      → fold_first f t ≡ f (sequence (range_of r)) (fold f (row r.count (items_part t)))
   first_ordered s k z = first_is ∙ ordered_kind (λ h. f h (fold f (row r.count (items_part t)))) r.leaf (range_of r) (s (range_of r) _) r.kind k z
 
 -- a row that is not empty, as the laws on rows take it
@@ -44,7 +44,7 @@ module _ {ℓ} {A : Type ℓ} (f : Head → List A → A) (n : ℕ) (t : List �
   fold_none z = rw z
 
   -- x is what f makes of the first tree, s the part after it
-  pub fold_some : Row n t → (n ≡ 0 → ⊥) → {x : A} → x ≡ foldFirst f t → {s : List ℕ} → s ≡ later_part t → fold f (row n t) ≡ x ∷ fold f (row (n - 1) s)
+  pub fold_some : Row n t → (n ≡ 0 → ⊥) → {x : A} → x ≡ fold_first f t → {s : List ℕ} → s ≡ later_part t → fold f (row n t) ≡ x ∷ fold f (row (n - 1) s)
   unfolding fold
   fold_some w z a b =
       let e : n ≡ suc (n - 1) = omega arith in

@@ -13,7 +13,7 @@ use Rattle.language.proofs.Rounds.{rounds_each, rounds_same, no_round, once_same
 use Rattle.tidying.specs.Tidy.{splices, takes_pair, tidy}
 use Rattle.tidying.specs.TidyTree.{Group}
 use Rattle.tidying.specs.TidyKept.{TidyAllows}
-use Rattle.tidying.proofs.Steps.{group-cases, splices-cases, takes-cases, zero_is, zero_min}
+use Rattle.tidying.proofs.Steps.{group_cases, splices_cases, takes_cases, zero_is, zero_min}
 use Rattle.tidying.proofs.Premises.{tidy_no_zero_maximum, tidy_ordered}
 use Rattle.tidying.proofs.FoldsKept.{StepsKept, tidy_keeps}
 
@@ -29,7 +29,7 @@ one_of_after (W ∷ before) Ws Xs f = λ w. ⊎_elim inl (λ x. inr (one_of_afte
 module _ (names : Names) where
   -- a group whose items after the first ones give a word of Ws in place of one of Xs
   after_within : (g : Head) → Group g → (before Ws Xs : List Words) → InOrder Ws ⊆ InOrder Xs → OneOf Ws ⊆ OneOf Xs → words_from names g (before ++ Ws) ⊆ words_from names g (before ++ Xs)
-  after_within g s before Ws Xs i o = group-cases (λ (g : Head). words_from names g (before ++ Ws) ⊆ words_from names g (before ++ Xs)) (λ p. rounds_each (in_order_after before Ws Xs i)) (λ p. rounds_each (one_of_after before Ws Xs o)) g s
+  after_within g s before Ws Xs i o = group_cases (λ (g : Head). words_from names g (before ++ Ws) ⊆ words_from names g (before ++ Xs)) (λ p. rounds_each (in_order_after before Ws Xs i)) (λ p. rounds_each (one_of_after before Ws Xs o)) g s
 
   tidied : (g : Head) → Group g → (before : List Words) (W X : Words) (after : List Words) → W ⊆ X → words_from names g (before ++ W ∷ after) ⊆ words_from names g (before ++ X ∷ after)
   tidied g s before W X after f = after_within g s before (W ∷ after) (X ∷ after) (followed_mono f (λ w x. x)) (λ w. ⊎_elim (λ x. inl (f w x)) inr)
@@ -39,17 +39,17 @@ module _ (names : Names) where
   dropped g s before W after e = after_within g s before after (W ∷ after) (λ w x. record { front = []; back = w; whole = refl; left = e; right = x }) (λ w. inr)
 
   spliced : (Ws : List Words) (g h : Head) → splices g h ≡ true → (before after : List Words) → words_from names g (before ++ (Ws ++ after)) ≐ words_from names g (before ++ words_from names h Ws ∷ after)
-  spliced Ws = splices-cases (λ (g h : Head). (before after : List Words) → words_from names g (before ++ (Ws ++ after)) ≐ words_from names g (before ++ words_from names h Ws ∷ after))
+  spliced Ws = splices_cases (λ (g h : Head). (before after : List Words) → words_from names g (before ++ (Ws ++ after)) ≐ words_from names g (before ++ words_from names h Ws ∷ after))
       (λ q p o before after. let e = in_order_joined Ws after ⟫ followed_same (turned (once_same o)) (same (InOrder after)) in
       rounds_same (λ w. (in_order_after before (Ws ++ after) (words_from names (sequence p) Ws ∷ after) (λ u. (e u).0) w, in_order_after before (words_from names (sequence p) Ws ∷ after) (Ws ++ after) (λ u. (e u).1) w)))
       (λ q p o before after. let e = one_of_joined Ws after ⟫ or_same (turned (once_same o)) (same (OneOf after)) in
       rounds_same (λ w. (one_of_after before (Ws ++ after) (words_from names (choice p) Ws ∷ after) (λ u. (e u).0) w, one_of_after before (words_from names (choice p) Ws ∷ after) (Ws ++ after) (λ u. (e u).1) w)))
 
   placed : (g : Head) → Group g → is_once (pair_of g) ≡ true → (W : Words) → words_from names g (W ∷ []) ≐ W
-  placed g s o W = group-cases (λ (g : Head). is_once (pair_of g) ≡ true → words_from names g (W ∷ []) ≐ W) (λ p o. once_same o ⟫ in_order_one) (λ p o. once_same o ⟫ one_of_one W) g s o
+  placed g s o W = group_cases (λ (g : Head). is_once (pair_of g) ≡ true → words_from names g (W ∷ []) ≐ W) (λ p o. once_same o ⟫ in_order_one) (λ p o. once_same o ⟫ one_of_one W) g s o
 
   paired : (Ws : List Words) (g h : Head) → takes_pair g h ≡ true → words_from names g (words_from names h Ws ∷ []) ≐ words_from names (choice (pair_of g)) Ws
-  paired Ws = takes-cases (λ (g h : Head). words_from names g (words_from names h Ws ∷ []) ≐ words_from names (choice (pair_of g)) Ws) (λ q p o. rounds_same (in_order_one ⟫ once_same o))
+  paired Ws = takes_cases (λ (g h : Head). words_from names g (words_from names h Ws ∷ []) ≐ words_from names (choice (pair_of g)) Ws) (λ q p o. rounds_same (in_order_one ⟫ once_same o))
 
   words_kept : StepsKept NoZeroMaximum (words_from names) ◌≐◌
   words_kept = record {

@@ -18,7 +18,7 @@ use Rattle.particle.proofs.RoundTrip.{head_record}
 use Rattle.tidying.specs.declared.Kept.{Kept}
 use Rattle.tidying.specs.Tidy.{takes_pair, lone, closed}
 use Rattle.tidying.specs.Laid.{Laid, Removed, KeptStand}
-use Rattle.tidying.proofs.Steps.{takes-cases}
+use Rattle.tidying.proofs.Steps.{takes_cases}
 use Rattle.tidying.proofs.LaidTrees.{laid_over, laid_within, laid_before, laid_long, laid_record, laid_open, laid_moved, laid_write}
 
 -- the one tree of a row
@@ -41,7 +41,7 @@ closed_many g (item h k (item h' k' r)) n = refl
 
 -- an item that takes a pair is a choice
 is_choice : (g h : Head) → takes_pair g h ≡ true → h ≡ choice (pair_of h)
-is_choice = takes-cases (λ (g h : Head). h ≡ choice (pair_of h)) (λ q p e. refl)
+is_choice = takes_cases (λ (g h : Head). h ≡ choice (pair_of h)) (λ q p e. refl)
 
 module _ {g : Record} {kept : Kept} {out : List ℕ} {at : ℕ} (s : KeptStand g kept out at) {before : List ℕ} {x : Items}
     (l : at + record_size ≤ length before) (n : kept.count ≡ count_i x) (a : Laid before out (at + record_size) kept.end x) where

@@ -7,7 +7,7 @@ use Rattle.particle.specs.Tree.{Head, Items, none, item, Particle, single, size_
 use Rattle.particle.proofs.EncodeParts.{size_then}
 use Rattle.tidying.specs.Tidy.{keep, closed, settle, tidy_items, tidy}
 use Rattle.tidying.specs.TidyTree.{TidyTree}
-use Rattle.tidying.proofs.Steps.{settle-cases, closed_cases, keep_cases}
+use Rattle.tidying.proofs.Steps.{settle_cases, closed_cases, keep_cases}
 use Rattle.tidying.proofs.Shape.{left_alone}
 
 -- x has fewer records than y, or is y
@@ -47,7 +47,7 @@ over h k t (inl a) = ⊎_elim (λ b. inl (omega arith)) (λ e. let n : size_i (s
 over h k t (inr e) = rw (← e) (closed_fewer h t)
 
 settle_fewer : (h : Head) (k t : Items) → Fewer t k → FewerTree (settle h k t) (record { head = h; items = k })
-settle_fewer h k t f = settle-cases (λ (x : Particle). FewerTree x (record { head = h; items = k })) h k t (λ _. inr refl) (λ _. over h k t f)
+settle_fewer h k t f = settle_cases (λ (x : Particle). FewerTree x (record { head = h; items = k })) h k t (λ _. inr refl) (λ _. over h k t f)
 
 items_fewer : (g : Head) (k : Items) → Fewer (tidy_items g k) k
 unfolding tidy_items

@@ -7,7 +7,7 @@ use Rattle.particle.specs.Tree.{Head, choice, Items, none, item, Particle, pair_
 use Rattle.language.specs.Premises.{Every, BelowRoot, Throughout}
 use Rattle.tidying.specs.Tidy.{splices, keep, takes_pair, closed, settle, tidy_items, tidy}
 use Rattle.tidying.specs.TidyTree.{Group}
-use Rattle.tidying.proofs.Steps.{settle-cases, closed_cases, keep_cases, fold-then}
+use Rattle.tidying.proofs.Steps.{settle_cases, closed_cases, keep_cases, fold_then}
 
 -- what f makes of a tree
 abbrev pub value_of {ℓ} : {A : Type ℓ} → (Head → List A → A) → Particle → A
@@ -38,7 +38,7 @@ module _ {ℓ} {A : Type ℓ} {P : Head → Items → Type 0} {f : Head → List
   keep_value g s before x rest p =
       keep_cases (λ (y : Items). f g (before ++ fold f y) ≲ f g (before ++ value_of f x ∷ fold f rest)) g x rest
       (λ z. L.dropped g s x.head x.items z p before (fold f rest))
-      (λ e. rw (fold-then f x.items rest) (L.spliced g x.head x.items e p before (fold f rest)))
+      (λ e. rw (fold_then f x.items rest) (L.spliced g x.head x.items e p before (fold f rest)))
       (λ _ _. L.itself _)
 
   closed_value : (g : Head) → Group g → (t : Items) → value_of f (closed g t) ≲ f g (fold f t)
@@ -50,7 +50,7 @@ module _ {ℓ} {A : Type ℓ} {P : Head → Items → Type 0} {f : Head → List
 
   -- a record, where what a group keeps of its items makes what they make
   settle_value : (h : Head) (k t : Items) → (Group h → f h (fold f t) ≲ f h (fold f k)) → value_of f (settle h k t) ≲ f h (fold f k)
-  settle_value h k t e = settle-cases (λ (x : Particle). value_of f x ≲ f h (fold f k)) h k t (λ _. L.itself _) (λ s. L.chained _ _ _ (closed_value h s t) (e s))
+  settle_value h k t e = settle_cases (λ (x : Particle). value_of f x ≲ f h (fold f k)) h k t (λ _. L.itself _) (λ s. L.chained _ _ _ (closed_value h s t) (e s))
 
   items_value : (g : Head) → Group g → (before : List A) (k : Items) → Every P k → f g (before ++ fold f (tidy_items g k)) ≲ f g (before ++ fold f k)
   unfolding fold tidy_items tidy

@@ -10,7 +10,7 @@ use Rattle.language.proofs.Premises.{throughout_map, throughout_both}
 use Rattle.language.proofs.Rounds.{once_is}
 use Rattle.tidying.specs.Tidy.{keep, closed, settle, tidy_items, tidy}
 use Rattle.tidying.specs.TidyTree.{Group}
-use Rattle.tidying.proofs.Steps.{group-cases, settle-cases, closed_cases, keep_cases, splices-cases, takes-cases, zero_is}
+use Rattle.tidying.proofs.Steps.{group_cases, settle_cases, closed_cases, keep_cases, splices_cases, takes_cases, zero_is}
 
 -- The law ------------------------------------------------------------------------------
 
@@ -29,10 +29,10 @@ module _ (P : Head → Items → Type 0) (kept : (g : Head) → Group g → (h :
   closed_each g t a ps =
       let one : (h : Head) (k : Items) → t ≡ item h k none → Throughout P (record { head = h; items = k }) = λ h k e. (subst (Every P) e ps).0 in
       closed_cases (Throughout P) g t (a, ps) (λ h k e _. one h k e)
-      (λ h k e p. (takes-cases (λ (g h : Head). P g (item h k none) → P h k → P (choice (pair_of g)) k) (λ q p o. rw (once_is p o) (taken q k)) g h p (subst (P g) e a) (one h k e).0, (one h k e).1))
+      (λ h k e p. (takes_cases (λ (g h : Head). P g (item h k none) → P h k → P (choice (pair_of g)) k) (λ q p o. rw (once_is p o) (taken q k)) g h p (subst (P g) e a) (one h k e).0, (one h k e).1))
 
   settle_each : (h : Head) (k t : Items) → Throughout P (record { head = h; items = k }) → Every P t → (Group h → P h k → P h t) → Throughout P (settle h k t)
-  settle_each h k t w ps f = settle-cases (Throughout P) h k t (λ _. w) (λ s. closed_each h t (f s w.0) ps)
+  settle_each h k t w ps f = settle_cases (Throughout P) h k t (λ _. w) (λ s. closed_each h t (f s w.0) ps)
 
   items_each : (g : Head) (k : Items) → Every P k → Every P (tidy_items g k) × (Group g → P g k → P g (tidy_items g k))
   unfolding tidy_items
@@ -78,11 +78,11 @@ Plain h k = NoZeroMaximum h k × NoEmptyChoice h k
 keep_some : (q : Occurs) (x : Particle) (rest : Items) → Plain x.head x.items → ¬ (keep (choice q) x rest ≡ none)
 keep_some q x rest (z, n) =
     keep_cases (λ (y : Items). ¬ (y ≡ none)) (choice q) x rest (λ e. absurd (z (zero_is (pair_of x.head).max e)))
-    (λ e. then_some x.items rest (splices-cases (λ (g h : Head). NoEmptyChoice h x.items → NoEmptyChoice g x.items) (λ q p o a. a) (λ q p o a. a) (choice q) x.head e n))
+    (λ e. then_some x.items rest (splices_cases (λ (g h : Head). NoEmptyChoice h x.items → NoEmptyChoice g x.items) (λ q p o a. a) (λ q p o a. a) (choice q) x.head e n))
     (λ _ _. item_some x.head x.items rest)
 
 plain_kept : (g : Head) → Group g → (h : Head) (k r rest : Items) (x : Particle) → Plain g (item h k r) → Plain x.head x.items → Plain g (keep g x rest)
-plain_kept g e h k r rest x a b = group-cases (λ (g : Head). Plain g (item h k r) → Plain g (keep g x rest)) (λ p a. a) (λ p a. (a.0, keep_some p x rest b)) g e a
+plain_kept g e h k r rest x a b = group_cases (λ (g : Head). Plain g (item h k r) → Plain g (keep g x rest)) (λ p a. a) (λ p a. (a.0, keep_some p x rest b)) g e a
 
 pub tidy_plain : (x : Particle) → Throughout Plain x → Throughout Plain (tidy x)
 tidy_plain = tidy_each Plain plain_kept (λ p k a b. (a.0, b.1))

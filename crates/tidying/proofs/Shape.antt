@@ -13,7 +13,7 @@ use Rattle.language.specs.Premises.{NoZeroMaximum}
 use Rattle.language.proofs.Rounds.{once_is}
 use Rattle.tidying.specs.Tidy.{splices, takes_pair, tidy}
 use Rattle.tidying.specs.TidyTree.{Group, EachItem, EveryOutside, Outside, BelowOutside, Once, NoOwnKind, NoLoneItem, NoLoneChoice, TidyTree}
-use Rattle.tidying.proofs.Steps.{group-cases, splices-cases, takes-cases, zero_is}
+use Rattle.tidying.proofs.Steps.{group_cases, splices_cases, takes_cases, zero_is}
 use Rattle.tidying.proofs.TidyTrees.{NoZero, TidyGroup, TidyItems, EachTidy, not_both, tidied_each, each_same}
 
 -- Tests and what they say ------------------------------------------------------------------------
@@ -34,7 +34,7 @@ once_holds p e = ap is_once e
 
 -- a (1,1) item of a group's own kind is one that it replaces by its items
 own_splices : (g : Head) → Group g → (h : Head) → kind_number h ≡ kind_number g → Once h → splices g h ≡ true
-own_splices g s h = group-cases (λ (g : Head). kind_number h ≡ kind_number g → Once h → splices g h ≡ true) (in_sequence_lem h) (in_choice_lem h) g s
+own_splices g s h = group_cases (λ (g : Head). kind_number h ≡ kind_number g → Once h → splices g h ≡ true) (in_sequence_lem h) (in_choice_lem h) g s
   where
     in_sequence_lem : (h : Head) (p : Occurs) → kind_number h ≡ 2 → Once h → splices (sequence p) h ≡ true
     in_sequence_lem (element l q) p k o = absurd (omega arith)
@@ -51,7 +51,7 @@ own_splices g s h = group-cases (λ (g : Head). kind_number h ≡ kind_number g 
     in_choice_lem (all q) p k o = absurd (omega arith)
 
 splices_own : (g h : Head) → splices g h ≡ true → (kind_number h ≡ kind_number g) × Once h
-splices_own = splices-cases (λ (g h : Head). (kind_number h ≡ kind_number g) × Once h) (λ q p o. (refl, once_is p o)) (λ q p o. (refl, once_is p o))
+splices_own = splices_cases (λ (g h : Head). (kind_number h ≡ kind_number g) × Once h) (λ q p o. (refl, once_is p o)) (λ q p o. (refl, once_is p o))
 
 each_map : {Q R : Head → Type 0} → ((h : Head) → Q h → R h) → (x : Items) → EachItem Q x → EachItem R x
 each_map f none q = tt
@@ -108,7 +108,7 @@ tidy_group g s k z a b c = record {
   no_zero = zero_heads k z;
   no_own = each_map (λ h n. refuted (splices g h) (λ t. let o = splices_own g h t in n o.0 o.1)) k (a s);
   not_alone = λ t. b s (once_is (pair_of g) t);
-  not_paired = λ h t i. refuted (takes_pair g h) (λ e. takes-cases (λ (g h : Head). k ≡ item h t none → NoLoneChoice g k → ⊥) (λ q p o i c. c q t refl (i ∙ ap (λ (p : Occurs). item (choice p) t none) (once_is p o))) g h e i c);
+  not_paired = λ h t i. refuted (takes_pair g h) (λ e. takes_cases (λ (g h : Head). k ≡ item h t none → NoLoneChoice g k → ⊥) (λ q p o i c. c q t refl (i ∙ ap (λ (p : Occurs). item (choice p) t none) (once_is p o))) g h e i c);
 }
 
 tidy_each : (x : Items) → ZeroBelow x → EveryOutside NoOwnKind x → EveryOutside NoLoneItem x → EveryOutside NoLoneChoice x → TidyItems x

@@ -6,7 +6,7 @@ use native.Mathlib.Omega.{arith}
 use Rattle.particle.specs.Tree.{Head, Items, none, item, Particle, single, size_i, ◌then◌}
 use Rattle.tidying.specs.Tidy.{keep, closed, settle, tidy_items, tidy}
 use Rattle.tidying.specs.Depth.{depth_of}
-use Rattle.tidying.proofs.Steps.{settle-cases, closed_cases, keep_cases}
+use Rattle.tidying.proofs.Steps.{settle_cases, closed_cases, keep_cases}
 
 -- a measure of rows, that c makes of the first tree's items and of the later trees, and that does not grow where a tree's items stand in its place
 pub record Measure (m : Items → ℕ) (c : ℕ → ℕ → ℕ) : Type 0 where
@@ -27,7 +27,7 @@ module _ {m : Items → ℕ} {c : ℕ → ℕ → ℕ} (M : Measure m c) where
       closed_cases (λ (x : Particle). m x.items ≤ m t) g t (le_refl _) (λ h k e _. inner h k e) (λ h k e _. inner h k e)
 
   settle_least : (h : Head) (k t : Items) → m t ≤ m k → m (settle h k t).items ≤ m k
-  settle_least h k t e = settle-cases (λ (x : Particle). m x.items ≤ m k) h k t (λ _. le_refl _) (λ _. le_trans (closed_least h t) e)
+  settle_least h k t e = settle_cases (λ (x : Particle). m x.items ≤ m k) h k t (λ _. le_refl _) (λ _. le_trans (closed_least h t) e)
 
   items_least : (g : Head) (k : Items) → m (tidy_items g k) ≤ m k
   unfolding tidy_items

@@ -13,14 +13,14 @@ use Rattle.totals.proofs.Standard.{emptiable_exact}
 use Rattle.language.specs.Premises.{BelowRoot, Ordered}
 use Rattle.tidying.specs.Tidy.{splices, keep, closed, settle, tidy_items, tidy}
 use Rattle.tidying.specs.TidyTree.{Group}
-use Rattle.tidying.proofs.Steps.{group-cases, settle-cases, closed_cases, keep_cases, splices-cases, zero_min}
+use Rattle.tidying.proofs.Steps.{group_cases, settle_cases, closed_cases, keep_cases, splices_cases, zero_min}
 use Rattle.tidying.proofs.Ranges.{same_range}
 use Rattle.tidying.proofs.TotalsKept.{placed, paired, never_min, tidy_exact_max}
 
 -- a record without items is left as it is
 alone : (h : Head) → settle h none (tidy_items h none) ≡ record { head = h; items = none }
 unfolding tidy_items
-alone h = settle-cases (λ (x : Particle). x ≡ record { head = h; items = none }) h none none (λ _. refl) (λ _. refl)
+alone h = settle_cases (λ (x : Particle). x ≡ record { head = h; items = none }) h none none (λ _. refl) (λ _. refl)
 
 -- Tidying leaves a tree of one record as it is.
 pub one_record : (x : Particle) → size_i (single x) ≤ 1 → tidy x ≡ x
@@ -34,12 +34,12 @@ one_record x l = go x.head x.items (omega arith)
 -- an item whose least number is 0, and no item
 no_least : (g : Head) → Group g → (t : Occurs) → t.min ≡ 0 → (exact_from g []).min ≡ (exact_from g (t ∷ [])).min
 unfolding sum span
-no_least g s t e = group-cases (λ (g : Head). (exact_from g []).min ≡ (exact_from g (t ∷ [])).min) (λ p. ap (λ (n : ℕ). p.min * n) (omega arith)) (λ p. ap (λ (n : ℕ). p.min * n) (omega arith)) g s
+no_least g s t e = group_cases (λ (g : Head). (exact_from g []).min ≡ (exact_from g (t ∷ [])).min) (λ p. ap (λ (n : ℕ). p.min * n) (omega arith)) (λ p. ap (λ (n : ℕ). p.min * n) (omega arith)) g s
 
 -- an item without items, of the group's own kind
 own_least : (g h : Head) → splices g h ≡ true → (exact_from h []).min ≡ 0
 unfolding sum span
-own_least = splices-cases (λ (g h : Head). (exact_from h []).min ≡ 0) (λ q p o. mul-zero p.min) (λ q p o. mul-zero p.min)
+own_least = splices_cases (λ (g h : Head). (exact_from h []).min ≡ 0) (λ q p o. mul-zero p.min) (λ q p o. mul-zero p.min)
 
 module _ (g : Head) (s : Group g) (h : Head) where
   abbrev Same : Particle → Type 0
@@ -67,7 +67,7 @@ two_least : (h : Head) (k : Items) → size_i k ≤ 1 → BelowRoot Ordered (rec
 unfolding size_i tidy tidy_items exact_total fold
 two_least h none l o = ap (λ (x : Particle). (exact_total x).min) (alone h)
 two_least h (item h' none none) l ((o, _), _) =
-    settle-cases (λ (x : Particle). (exact_total x).min ≡ (exact_from h (exact_from h' [] ∷ [])).min) h (item h' none none) (keep h (settle h' none none) none) (λ _. refl)
+    settle_cases (λ (x : Particle). (exact_total x).min ≡ (exact_from h (exact_from h' [] ∷ [])).min) h (item h' none none) (keep h (settle h' none none) none) (λ _. refl)
     (λ s. ap (λ (x : Particle). (exact_total (closed h (keep h x none))).min) (alone h') ∙ one_item h s h' o)
 two_least h (item h' none (item h'' k r)) l o = absurd (omega arith)
 two_least h (item h' (item h'' k r) t) l o = absurd (omega arith)

@@ -19,20 +19,20 @@ branch C true a b f g = f refl
 branch C false a b f g = g refl
 
 -- what holds of each sequence and each choice holds of each head that is one
-pub group-cases {ℓ} : (C : Head → Type ℓ) → ((p : Occurs) → C (sequence p)) → ((p : Occurs) → C (choice p)) → (g : Head) → Group g → C g
-group-cases C s c (element l p) e = absurd e
-group-cases C s c (wildcard l p) e = absurd e
-group-cases C s c (sequence p) e = s p
-group-cases C s c (choice p) e = c p
-group-cases C s c (all p) e = absurd e
+pub group_cases {ℓ} : (C : Head → Type ℓ) → ((p : Occurs) → C (sequence p)) → ((p : Occurs) → C (choice p)) → (g : Head) → Group g → C g
+group_cases C s c (element l p) e = absurd e
+group_cases C s c (wildcard l p) e = absurd e
+group_cases C s c (sequence p) e = s p
+group_cases C s c (choice p) e = c p
+group_cases C s c (all p) e = absurd e
 
 -- a record is not altered, or is a group that is closed
-pub settle-cases {ℓ} : (C : Particle → Type ℓ) (h : Head) (k t : Items) → (¬ (Group h) → C (record { head = h; items = k })) → (Group h → C (closed h t)) → C (settle h k t)
-settle-cases C (element l p) k t f g = f (λ e. e)
-settle-cases C (wildcard l p) k t f g = f (λ e. e)
-settle-cases C (sequence p) k t f g = g tt
-settle-cases C (choice p) k t f g = g tt
-settle-cases C (all p) k t f g = f (λ e. e)
+pub settle_cases {ℓ} : (C : Particle → Type ℓ) (h : Head) (k t : Items) → (¬ (Group h) → C (record { head = h; items = k })) → (Group h → C (closed h t)) → C (settle h k t)
+settle_cases C (element l p) k t f g = f (λ e. e)
+settle_cases C (wildcard l p) k t f g = f (λ e. e)
+settle_cases C (sequence p) k t f g = g tt
+settle_cases C (choice p) k t f g = g tt
+settle_cases C (all p) k t f g = f (λ e. e)
 
 -- a group is as it is over its items, or its one item takes its place or its pair
 pub closed_cases {ℓ} : (C : Particle → Type ℓ) (g : Head) (t : Items) → C (record { head = g; items = t })
@@ -51,33 +51,33 @@ keep_cases C g x rest dropped replaced kept =
     branch C (is_zero (pair_of x.head).max) rest (put g x rest) dropped (λ z. branch C (splices g x.head) (x.items then rest) (item x.head x.items rest) replaced (kept z))
 
 -- an item that its group replaces by its items is a (1,1) sequence in a sequence, or a (1,1) choice in a choice
-pub splices-cases {ℓ} : (C : Head → Head → Type ℓ) → ((q p : Occurs) → is_once p ≡ true → C (sequence q) (sequence p))
+pub splices_cases {ℓ} : (C : Head → Head → Type ℓ) → ((q p : Occurs) → is_once p ≡ true → C (sequence q) (sequence p))
     → ((q p : Occurs) → is_once p ≡ true → C (choice q) (choice p)) → (g h : Head) → splices g h ≡ true → C g h
-splices-cases C s c (sequence q) (sequence p) e = s q p e
-splices-cases C s c (choice q) (choice p) e = c q p e
-splices-cases C s c (element l q) h e = absurd (false≢true e)
-splices-cases C s c (wildcard l q) h e = absurd (false≢true e)
-splices-cases C s c (all q) h e = absurd (false≢true e)
-splices-cases C s c (sequence q) (element l p) e = absurd (false≢true e)
-splices-cases C s c (sequence q) (wildcard l p) e = absurd (false≢true e)
-splices-cases C s c (sequence q) (choice p) e = absurd (false≢true e)
-splices-cases C s c (sequence q) (all p) e = absurd (false≢true e)
-splices-cases C s c (choice q) (element l p) e = absurd (false≢true e)
-splices-cases C s c (choice q) (wildcard l p) e = absurd (false≢true e)
-splices-cases C s c (choice q) (sequence p) e = absurd (false≢true e)
-splices-cases C s c (choice q) (all p) e = absurd (false≢true e)
+splices_cases C s c (sequence q) (sequence p) e = s q p e
+splices_cases C s c (choice q) (choice p) e = c q p e
+splices_cases C s c (element l q) h e = absurd (false≢true e)
+splices_cases C s c (wildcard l q) h e = absurd (false≢true e)
+splices_cases C s c (all q) h e = absurd (false≢true e)
+splices_cases C s c (sequence q) (element l p) e = absurd (false≢true e)
+splices_cases C s c (sequence q) (wildcard l p) e = absurd (false≢true e)
+splices_cases C s c (sequence q) (choice p) e = absurd (false≢true e)
+splices_cases C s c (sequence q) (all p) e = absurd (false≢true e)
+splices_cases C s c (choice q) (element l p) e = absurd (false≢true e)
+splices_cases C s c (choice q) (wildcard l p) e = absurd (false≢true e)
+splices_cases C s c (choice q) (sequence p) e = absurd (false≢true e)
+splices_cases C s c (choice q) (all p) e = absurd (false≢true e)
 
 -- an item that takes its group's pair is a (1,1) choice in a sequence
-pub takes-cases {ℓ} : (C : Head → Head → Type ℓ) → ((q p : Occurs) → is_once p ≡ true → C (sequence q) (choice p)) → (g h : Head) → takes_pair g h ≡ true → C g h
-takes-cases C s (sequence q) (choice p) e = s q p e
-takes-cases C s (element l q) h e = absurd (false≢true e)
-takes-cases C s (wildcard l q) h e = absurd (false≢true e)
-takes-cases C s (choice q) h e = absurd (false≢true e)
-takes-cases C s (all q) h e = absurd (false≢true e)
-takes-cases C s (sequence q) (element l p) e = absurd (false≢true e)
-takes-cases C s (sequence q) (wildcard l p) e = absurd (false≢true e)
-takes-cases C s (sequence q) (sequence p) e = absurd (false≢true e)
-takes-cases C s (sequence q) (all p) e = absurd (false≢true e)
+pub takes_cases {ℓ} : (C : Head → Head → Type ℓ) → ((q p : Occurs) → is_once p ≡ true → C (sequence q) (choice p)) → (g h : Head) → takes_pair g h ≡ true → C g h
+takes_cases C s (sequence q) (choice p) e = s q p e
+takes_cases C s (element l q) h e = absurd (false≢true e)
+takes_cases C s (wildcard l q) h e = absurd (false≢true e)
+takes_cases C s (choice q) h e = absurd (false≢true e)
+takes_cases C s (all q) h e = absurd (false≢true e)
+takes_cases C s (sequence q) (element l p) e = absurd (false≢true e)
+takes_cases C s (sequence q) (wildcard l p) e = absurd (false≢true e)
+takes_cases C s (sequence q) (sequence p) e = absurd (false≢true e)
+takes_cases C s (sequence q) (all p) e = absurd (false≢true e)
 
 -- a maximum that the test finds to be 0 is 0
 pub zero_is : (m : MaxOccurs) → is_zero m ≡ true → m ≡ Bounded 0
@@ -89,7 +89,7 @@ pub zero_min : (p : Occurs) → AtMost p.min p.max → is_zero p.max ≡ true �
 zero_min p o t = let l : AtMost p.min (Bounded 0) = subst (AtMost p.min) (zero_is p.max t) o in omega arith
 
 -- a fold over one row of trees after another
-pub fold-then {ℓ} : {A : Type ℓ} (f : Head → List A → A) (x y : Items) → fold f (x then y) ≡ fold f x ++ fold f y
+pub fold_then {ℓ} : {A : Type ℓ} (f : Head → List A → A) (x y : Items) → fold f (x then y) ≡ fold f x ++ fold f y
 unfolding fold ◌then◌
-fold-then f none y = refl
-fold-then f (item h k r) y = ap (◌∷◌ (f h (fold f k))) (fold-then f r y)
+fold_then f none y = refl
+fold_then f (item h k r) y = ap (◌∷◌ (f h (fold f k))) (fold_then f r y)

@@ -14,7 +14,7 @@ use Rattle.language.proofs.Wider.{OneOrNone, one_or_none, wider_from, Wider, wid
 use Rattle.language.proofs.Emptiness.{zero_wider}
 use Rattle.tidying.specs.Tidy.{splices, keep, takes_pair, lone, closed, settle, tidy_items, tidy}
 use Rattle.tidying.specs.TidyTree.{Group}
-use Rattle.tidying.proofs.Steps.{branch, group-cases, settle-cases, keep_cases, splices-cases, takes-cases, zero_is, fold-then}
+use Rattle.tidying.proofs.Steps.{branch, group_cases, settle_cases, keep_cases, splices_cases, takes_cases, zero_is, fold_then}
 use Rattle.tidying.proofs.Premises.{item_some, then_some, tidy_ordered}
 
 -- a round of a sequence or choice, and a round where an empty choice has an empty one
@@ -48,14 +48,14 @@ module _ (names : Names) where
 
   -- an item that is replaced by its items
   spliced : (Ws : List Words) (g h : Head) → splices g h ≡ true → round g Ws ⊆ wider_from names h Ws
-  spliced Ws = splices-cases (λ (g h : Head). round g Ws ⊆ wider_from names h Ws) (λ q p o w y. (once_same o w).1 y) (λ q p o w y. (once_same o w).1 (one_or_none Ws w y))
+  spliced Ws = splices_cases (λ (g h : Head). round g Ws ⊆ wider_from names h Ws) (λ q p o w y. (once_same o w).1 y) (λ q p o w y. (once_same o w).1 (one_or_none Ws w y))
 
   in_order_keep : (p : Occurs) (x : Particle) (rest : Items) → Ordered x.head x.items → InOrder (wide (keep (sequence p) x rest)) ⊆ Followed (Wider names x) (InOrder (wide rest))
   unfolding fold Wider
   in_order_keep p x rest o =
       keep_cases (λ (y : Items). InOrder (wide y) ⊆ Followed (Wider names x) (InOrder (wide rest))) (sequence p) x rest
       (λ z w y. record { front = []; back = w; whole = refl; left = zero_gives x o z; right = y })
-      (λ e w y. followed_mono (spliced (wide x.items) (sequence p) x.head e) (λ u v. v) w ((in_order_joined (wide x.items) (wide rest) w).0 (subst (λ (Ws : List Words). InOrder Ws w) (fold-then (wider_from names) x.items rest) y)))
+      (λ e w y. followed_mono (spliced (wide x.items) (sequence p) x.head e) (λ u v. v) w ((in_order_joined (wide x.items) (wide rest) w).0 (subst (λ (Ws : List Words). InOrder Ws w) (fold_then (wider_from names) x.items rest) y)))
       (λ _ _ w y. y)
 
   one_of_keep : (p : Occurs) (x : Particle) (rest : Items) → OneOf (wide (keep (choice p) x rest)) ⊆ (λ w. Wider names x w ⊎ OneOf (wide rest) w)
@@ -63,7 +63,7 @@ module _ (names : Names) where
   one_of_keep p x rest =
       keep_cases (λ (y : Items). OneOf (wide y) ⊆ (λ w. Wider names x w ⊎ OneOf (wide rest) w)) (choice p) x rest
       (λ _ w y. inr y)
-      (λ e w y. ⊎_elim (λ a. inl (spliced (wide x.items) (choice p) x.head e w a)) inr ((one_of_joined (wide x.items) (wide rest) w).0 (subst (λ (Ws : List Words). OneOf Ws w) (fold-then (wider_from names) x.items rest) y)))
+      (λ e w y. ⊎_elim (λ a. inl (spliced (wide x.items) (choice p) x.head e w a)) inr ((one_of_joined (wide x.items) (wide rest) w).0 (subst (λ (Ws : List Words). OneOf Ws w) (fold_then (wider_from names) x.items rest) y)))
       (λ _ _ w y. y)
 
   -- where a choice keeps nothing, its first item gives the empty word
@@ -76,28 +76,28 @@ module _ (names : Names) where
       (λ _ _ n. absurd (item_some x.head x.items rest n))
     where
       emptied : (k : Items) (g h : Head) → splices g h ≡ true → k then rest ≡ none → wider_from names h (wide k) []
-      emptied none = splices-cases (λ (g h : Head). none then rest ≡ none → wider_from names h (wide none) []) (λ q p o n. (once_same o []).1 refl) (λ q p o n. (once_same o []).1 refl)
+      emptied none = splices_cases (λ (g h : Head). none then rest ≡ none → wider_from names h (wide none) []) (λ q p o n. (once_same o []).1 refl) (λ q p o n. (once_same o []).1 refl)
       emptied (item h' k r) = λ g h e n. absurd (then_some (item h' k r) rest (item_some h' k r) n)
 
   -- A group, from what it keeps ---------------------------------------------------------------
 
   one_round_of : (g : Head) → Group g → (W : Words) → W ⊆ wider_round g (W ∷ [])
-  one_round_of g s W w y = group-cases (λ (g : Head). wider_round g (W ∷ []) w) (λ p. (in_order_one w).1 y) (λ p. inl y) g s
+  one_round_of g s W w y = group_cases (λ (g : Head). wider_round g (W ∷ []) w) (λ p. (in_order_one w).1 y) (λ p. inl y) g s
 
   rounds_of : (g : Head) → Group g → (Ws Xs : List Words) → wider_round g Ws ⊆ round g Xs → wider_from names g Ws ⊆ words_from names g Xs
-  rounds_of g s Ws Xs = group-cases (λ (g : Head). wider_round g Ws ⊆ round g Xs → wider_from names g Ws ⊆ words_from names g Xs) (λ p. rounds_each) (λ p. rounds_each) g s
+  rounds_of g s Ws Xs = group_cases (λ (g : Head). wider_round g Ws ⊆ round g Xs → wider_from names g Ws ⊆ words_from names g Xs) (λ p. rounds_each) (λ p. rounds_each) g s
 
   -- one item is left
   lone_within : (g : Head) → Group g → (h : Head) (k : Items) (Xs : List Words) → wider_round g (wider_from names h (wide k) ∷ []) ⊆ round g Xs → Wider names (lone g h k) ⊆ words_from names g Xs
   unfolding fold Wider
   lone_within g s h k Xs f =
       branch (λ (y : Particle). Wider names y ⊆ words_from names g Xs) (takes_pair g h) (record { head = choice (pair_of g); items = k }) (record { head = g; items = item h k none })
-      (λ e. takes-cases (λ (g h : Head). wider_round g (wider_from names h (wide k) ∷ []) ⊆ round g Xs → wider_from names (choice (pair_of g)) (wide k) ⊆ words_from names g Xs)
+      (λ e. takes_cases (λ (g h : Head). wider_round g (wider_from names h (wide k) ∷ []) ⊆ round g Xs → wider_from names (choice (pair_of g)) (wide k) ⊆ words_from names g Xs)
       (λ q p o f. rounds_each (λ w y. f w ((in_order_one w).1 ((once_same o w).1 y)))) g h e f)
       (λ _. rounds_of g s (wider_from names h (wide k) ∷ []) Xs f)
 
   placed : (g : Head) → Group g → is_once (pair_of g) ≡ true → (Xs : List Words) → round g Xs ⊆ words_from names g Xs
-  placed g s o Xs = group-cases (λ (g : Head). is_once (pair_of g) ≡ true → round g Xs ⊆ words_from names g Xs) (λ p o w y. (once_same o w).1 y) (λ p o w y. (once_same o w).1 y) g s o
+  placed g s o Xs = group_cases (λ (g : Head). is_once (pair_of g) ≡ true → round g Xs ⊆ words_from names g Xs) (λ p o w y. (once_same o w).1 y) (λ p o w y. (once_same o w).1 y) g s o
 
   closed_within : (g : Head) → Group g → (t : Items) (Xs : List Words) → wider_round g (wide t) ⊆ round g Xs → Wider names (closed g t) ⊆ words_from names g Xs
   unfolding fold Wider
@@ -123,7 +123,7 @@ module _ (names : Names) where
 
   kept_round : (g : Head) → Group g → (k : Items) → NoEmptyChoice g k → Kept g k → wider_round g (wide (tidy_items g k)) ⊆ round g (words k)
   unfolding fold
-  kept_round g s k = group-cases (λ (g : Head). NoEmptyChoice g k → Kept g k → wider_round g (wide (tidy_items g k)) ⊆ round g (words k)) (λ p n i. i.0) (λ p n i. go p n i (tidy_items (choice p) k) refl) g s
+  kept_round g s k = group_cases (λ (g : Head). NoEmptyChoice g k → Kept g k → wider_round g (wide (tidy_items g k)) ⊆ round g (words k)) (λ p n i. i.0) (λ p n i. go p n i (tidy_items (choice p) k) refl) g s
     where
       go : (p : Occurs) → ¬ (k ≡ none) → Kept (choice p) k → (t : Items) → tidy_items (choice p) k ≡ t → OneOrNone (wide t) ⊆ OneOf (words k)
       go p n i none e w y = subst (OneOf (words k)) (sym y) (i.1 e n)
@@ -132,18 +132,18 @@ module _ (names : Names) where
   settle_within : (h : Head) (k : Items) → Throughout NoEmptyChoice (record { head = h; items = k }) → (Group h → Kept h k) → Wider names (settle h k (tidy_items h k)) ⊆ words_from names h (words k)
   unfolding Allows
   settle_within h k (n, ns) i =
-      settle-cases (λ (y : Particle). Wider names y ⊆ words_from names h (words k)) h k (tidy_items h k)
+      settle_cases (λ (y : Particle). Wider names y ⊆ words_from names h (words k)) h k (tidy_items h k)
       (λ _ w y. subst (λ (W : Words). W w) (wider_same names (record { head = h; items = k }) (n, ns)) y)
       (λ s. closed_within h s (tidy_items h k) (words k) (kept_round h s k n (i s)))
 
   items_within : (k : Items) → Every Ordered k → Every NoEmptyChoice k → (g : Head) → Group g → Kept g k
   unfolding tidy_items tidy fold
-  items_within none os ns g s = group-cases (λ (g : Head). Kept g none) (λ p. (λ w y. y, tt)) (λ p. (λ w y. y, λ e n. absurd (n refl))) g s
+  items_within none os ns g s = group_cases (λ (g : Head). Kept g none) (λ p. (λ w y. y, tt)) (λ p. (λ w y. y, λ e n. absurd (n refl))) g s
   items_within (item h k r) (o, os) (n, ns) g s =
       let x = settle h k (tidy_items h k) in
       let ordered = (tidy_ordered (record { head = h; items = k }) o).0 in
       let first = settle_within h k n (λ s. items_within k o.1 n.1 h s) in
-      group-cases (λ (g : Head). Kept g r → Kept g (item h k r))
+      group_cases (λ (g : Head). Kept g r → Kept g (item h k r))
       (λ p i. (λ w y. followed_mono first i.0 w (in_order_keep p x (tidy_items (sequence p) r) ordered w y), tt))
       (λ p i. (λ w y. ⊎_elim (λ a. inl (first w a)) (λ b. inr (i.0 w b)) (one_of_keep p x (tidy_items (choice p) r) w y), λ e _. inl (first [] (none_kept p x (tidy_items (choice p) r) ordered e))))
       g s (items_within r os ns g s)

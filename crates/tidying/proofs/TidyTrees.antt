@@ -7,7 +7,7 @@ use Rattle.particle.specs.Occurs.{is_zero, is_once}
 use Rattle.particle.specs.Tree.{Head, choice, Items, none, item, Particle, pair_of, single, count_i, ◌then◌}
 use Rattle.tidying.specs.Tidy.{splices, put, keep, takes_pair, lone, closed, settle, tidy_items, tidy}
 use Rattle.tidying.specs.TidyTree.{Group, EachItem}
-use Rattle.tidying.proofs.Steps.{branch, settle-cases, closed_cases, keep_cases, splices-cases, takes-cases}
+use Rattle.tidying.proofs.Steps.{branch, settle_cases, closed_cases, keep_cases, splices_cases, takes_cases}
 
 -- none of the trees has maximum 0
 abbrev pub NoZero : Items → Type 0
@@ -51,7 +51,7 @@ pub record KeptTidy (g : Head) (t : Items) : Type 0 where
 -- the items of an item of the group's own kind
 inner_kept : (g h : Head) (k : Items) → splices g h ≡ true → TidyItems (item h k none) → KeptTidy g k
 unfolding TidyItems
-inner_kept g h k e = splices-cases (λ (g h : Head). TidyItems (item h k none) → KeptTidy g k)
+inner_kept g h k e = splices_cases (λ (g h : Head). TidyItems (item h k none) → KeptTidy g k)
     (λ q p o a. let b = a.0 tt in record { tidy_ones = b.1; no_zero = b.0.no_zero; no_own = b.0.no_own })
     (λ q p o a. let b = a.0 tt in record { tidy_ones = b.1; no_zero = b.0.no_zero; no_own = b.0.no_own }) g h e
 
@@ -78,7 +78,7 @@ lone_tidy : (g h : Head) (k : Items) → KeptTidy g (item h k none) → is_once 
 unfolding TidyItems
 lone_tidy g h k a n =
     branch EachTidy (takes_pair g h) (record { head = choice (pair_of g); items = k }) (record { head = g; items = item h k none })
-    (λ e. takes-cases (λ (g h : Head). is_once (pair_of g) ≡ false → TidyItems (item h k none) → EachTidy (record { head = choice (pair_of g); items = k }))
+    (λ e. takes_cases (λ (g h : Head). is_once (pair_of g) ≡ false → TidyItems (item h k none) → EachTidy (record { head = choice (pair_of g); items = k }))
     (λ q p o n a. let b = a.0 tt in (λ _. (record { no_zero = b.0.no_zero; no_own = b.0.no_own; not_alone = λ e. absurd (not_both (is_once q) e n); not_paired = λ h t e. refl }, b.1), tt)) g h e n a.tidy_ones)
     (λ e. (λ _. tidy_group g (item h k none) a (λ o. absurd (not_both (is_once (pair_of g)) o n)) (λ h' t i. let f : h ≡ h' = cc in rw f at e), tt))
 
@@ -91,7 +91,7 @@ closed_tidy g (item h k (item h' k' r)) a =
 
 settle_tidy : (h : Head) (k t : Items) → (Group h → KeptTidy h t) → EachTidy (settle h k t)
 unfolding TidyItems
-settle_tidy h k t a = settle-cases EachTidy h k t (λ n. (λ s. absurd (n s), tt)) (λ s. closed_tidy h t (a s))
+settle_tidy h k t a = settle_cases EachTidy h k t (λ n. (λ s. absurd (n s), tt)) (λ s. closed_tidy h t (a s))
 
 -- In particular a sequence keeps no (1,1) sequence: the Rust's arm for a lone one is never reached.
 pub items_kept : (g : Head) (k : Items) → KeptTidy g (tidy_items g k)
@@ -113,7 +113,7 @@ closed_same g t a =
     (λ h k e p. absurd (not_both (takes_pair g h) p (a.not_paired h k e)))
 
 settle_same : (h : Head) (k : Items) → (Group h → TidyGroup h k × (tidy_items h k ≡ k)) → settle h k (tidy_items h k) ≡ record { head = h; items = k }
-settle_same h k f = settle-cases (λ (x : Particle). x ≡ record { head = h; items = k }) h k (tidy_items h k) (λ _. refl) (λ s. ap (closed h) (f s).1 ∙ closed_same h k (f s).0)
+settle_same h k f = settle_cases (λ (x : Particle). x ≡ record { head = h; items = k }) h k (tidy_items h k) (λ _. refl) (λ s. ap (closed h) (f s).1 ∙ closed_same h k (f s).0)
 
 keep_same : (g h : Head) (k r : Items) → is_zero (pair_of h).max ≡ false → splices g h ≡ false → keep g (record { head = h; items = k }) r ≡ item h k r
 keep_same g h k r z e = rw (z, keep, e, put)

@@ -18,7 +18,7 @@ use Rattle.language.proofs.Rounds.{once_is}
 use Rattle.tidying.specs.Tidy.{splices, takes_pair, tidy}
 use Rattle.tidying.specs.TidyTree.{Group}
 use Rattle.tidying.specs.TidyKept.{TidyExactTotal, TidyTotal}
-use Rattle.tidying.proofs.Steps.{group-cases, splices-cases, takes-cases, zero_is, zero_min}
+use Rattle.tidying.proofs.Steps.{group_cases, splices_cases, takes_cases, zero_is, zero_min}
 use Rattle.tidying.proofs.Premises.{Plain, tidy_heads, tidy_ordered, tidy_plain}
 use Rattle.tidying.proofs.FoldsKept.{StepsKept, tidy_keeps}
 use Rattle.tidying.proofs.Ranges.{same_range, once_range, alone_range, most, span_most, sum_max_after, most_after, sum_min_after, span_min_after, sum_max_without, most_without, span_min_without, sum_min_without, span_min_lesser, sum_joined, most_joined, span_min_joined}
@@ -30,17 +30,17 @@ once_total p t o = rw (once_is p o) (once_range t)
 
 pub placed : (g : Head) → Group g → is_once (pair_of g) ≡ true → (t : Occurs) → exact_from g (t ∷ []) ≡ t
 unfolding sum span
-placed g s o t = group-cases (λ (g : Head). is_once (pair_of g) ≡ true → exact_from g (t ∷ []) ≡ t) (λ p o. ap (mul_range p) (alone_range t) ∙ once_total p t o) (λ p o. once_total p t o) g s o
+placed g s o t = group_cases (λ (g : Head). is_once (pair_of g) ≡ true → exact_from g (t ∷ []) ≡ t) (λ p o. ap (mul_range p) (alone_range t) ∙ once_total p t o) (λ p o. once_total p t o) g s o
 
 pub paired : (ts : List Occurs) (g h : Head) → takes_pair g h ≡ true → exact_from g (exact_from h ts ∷ []) ≡ exact_from (choice (pair_of g)) ts
 unfolding sum
-paired ts = takes-cases (λ (g h : Head). exact_from g (exact_from h ts ∷ []) ≡ exact_from (choice (pair_of g)) ts) (λ q p o. ap (mul_range q) (alone_range (mul_range p (span ts)) ∙ once_total p (span ts) o))
+paired ts = takes_cases (λ (g h : Head). exact_from g (exact_from h ts ∷ []) ≡ exact_from (choice (pair_of g)) ts) (λ q p o. ap (mul_range q) (alone_range (mul_range p (span ts)) ∙ once_total p (span ts) o))
 
 -- The maximum ---------------------------------------------------------------------------------
 
 -- a group's maximum comes of its items' maxima
 group_max : (g : Head) → Group g → (xs ys : List Occurs) → (sum xs).max ≡ (sum ys).max → most xs ≡ most ys → (exact_from g xs).max ≡ (exact_from g ys).max
-group_max g s xs ys e f = group-cases (λ (g : Head). (exact_from g xs).max ≡ (exact_from g ys).max) (λ p. ap (mul_max p.max) e) (λ p. ap (mul_max p.max) (span_most xs ∙ (f ∙ sym (span_most ys)))) g s
+group_max g s xs ys e f = group_cases (λ (g : Head). (exact_from g xs).max ≡ (exact_from g ys).max) (λ p. ap (mul_max p.max) e) (λ p. ap (mul_max p.max) (span_most xs ∙ (f ∙ sym (span_most ys)))) g s
 
 never_mul : (m : MaxOccurs) → mul_max (Bounded 0) m ≡ Bounded 0
 never_mul (Bounded n) = ap Bounded (zero-mul n)
@@ -63,7 +63,7 @@ dropped_max : (g : Head) → Group g → (before : List Occurs) (t : Occurs) (af
 dropped_max g s before t after e = group_max g s (before ++ after) (before ++ t ∷ after) (sum_max_after before after (t ∷ after) (sum_max_without t after e)) (most_after before after (t ∷ after) (most_without t after e))
 
 spliced_max : (ts : List Occurs) (g h : Head) → splices g h ≡ true → (before after : List Occurs) → (exact_from g (before ++ (ts ++ after))).max ≡ (exact_from g (before ++ exact_from h ts ∷ after)).max
-spliced_max ts = splices-cases (λ (g h : Head). (before after : List Occurs) → (exact_from g (before ++ (ts ++ after))).max ≡ (exact_from g (before ++ exact_from h ts ∷ after)).max)
+spliced_max ts = splices_cases (λ (g h : Head). (before after : List Occurs) → (exact_from g (before ++ (ts ++ after))).max ≡ (exact_from g (before ++ exact_from h ts ∷ after)).max)
     (λ q p o before after. rw (once_total p (sum ts) o) (ap (mul_max q.max) (sum_max_after before (ts ++ after) (sum ts ∷ after) (ap (λ (t : Occurs). t.max) (sum_joined ts after)))))
     (λ q p o before after. rw (once_total p (span ts) o, span_most (before ++ (ts ++ after))) (ap (mul_max q.max) (most_after before (ts ++ after) (span ts ∷ after) (most_joined ts after) ∙ sym (span_most (before ++ span ts ∷ after)))))
 
@@ -86,7 +86,7 @@ max_kept = record {
 
 -- a group's minimum comes of its items' minima
 group_min : (g : Head) → Group g → (xs ys : List Occurs) → (sum ys).min ≤ (sum xs).min → (span ys).min ≤ (span xs).min → (exact_from g ys).min ≤ (exact_from g xs).min
-group_min g s xs ys a b = group-cases (λ (g : Head). (exact_from g ys).min ≤ (exact_from g xs).min) (λ p. mul-le-mul_left p.min a) (λ p. mul-le-mul_left p.min b) g s
+group_min g s xs ys a b = group_cases (λ (g : Head). (exact_from g ys).min ≤ (exact_from g xs).min) (λ p. mul-le-mul_left p.min a) (λ p. mul-le-mul_left p.min b) g s
 
 -- the total of a record of minimum 0
 pub never_min : (h : Head) (ts : List Occurs) → (pair_of h).min ≡ 0 → (exact_from h ts).min ≡ 0
@@ -114,7 +114,7 @@ sum_first : (ts ys : List Occurs) → (sum (ts ++ ys)).min ≡ (sum (sum ts ∷ 
 sum_first ts ys = ap (λ (t : Occurs). t.min) (sum_joined ts ys)
 
 spliced_min : (ts : List Occurs) (g h : Head) → splices g h ≡ true → (before after : List Occurs) → (exact_from g (before ++ exact_from h ts ∷ after)).min ≤ (exact_from g (before ++ (ts ++ after))).min
-spliced_min ts = splices-cases (λ (g h : Head). (before after : List Occurs) → (exact_from g (before ++ exact_from h ts ∷ after)).min ≤ (exact_from g (before ++ (ts ++ after))).min)
+spliced_min ts = splices_cases (λ (g h : Head). (before after : List Occurs) → (exact_from g (before ++ exact_from h ts ∷ after)).min ≤ (exact_from g (before ++ (ts ++ after))).min)
     (λ q p o before after. rw (once_total p (sum ts) o) (mul-le-mul_left q.min (sum_min_after before (ts ++ after) (sum ts ∷ after) (le_of_eq (sym (sum_first ts after))))))
     (λ q p o before after. rw (once_total p (span ts) o) (mul-le-mul_left q.min (span_min_after before (ts ++ after) (span ts) after (span_first ts after))))
 
@@ -122,7 +122,7 @@ spliced_min ts = splices-cases (λ (g h : Head). (before after : List Occurs) �
 spliced_some : (k : Items) (g h : Head) → splices g h ≡ true → NoEmptyChoice h k → (before after : List Occurs)
     → (exact_from g (before ++ (fold exact_from k ++ after))).min ≤ (exact_from g (before ++ exact_from h (fold exact_from k) ∷ after)).min
 unfolding fold
-spliced_some k = splices-cases
+spliced_some k = splices_cases
     (λ (g h : Head). NoEmptyChoice h k → (before after : List Occurs) → (exact_from g (before ++ (fold exact_from k ++ after))).min ≤ (exact_from g (before ++ exact_from h (fold exact_from k) ∷ after)).min)
     (λ q p o n before after. rw (once_total p (sum (fold exact_from k)) o) (mul-le-mul_left q.min (sum_min_after before (sum (fold exact_from k) ∷ after) (fold exact_from k ++ after) (le_of_eq (sum_first (fold exact_from k) after)))))
     (λ q p o n before after. rw (once_total p (span (fold exact_from k)) o) (mul-le-mul_left q.min (some k n before after)))

@@ -160,7 +160,7 @@ fn copy_tree(t: &[u8], out: &mut [u8], at: usize) -> Written
 {
     let n = particle::run_len(t);
     let end = at + n;
-    bytes::copy(&t[..n], &mut out[at..end]);
+    out[at..end].copy_from_slice(&t[..n]);
     Written { read: n, end: end }
 }
 
@@ -240,6 +240,6 @@ pub fn normalize(t: &[u8], out: &mut [u8]) -> usize
 {
     let mut work = [0u8; CAPACITY];
     let end = normalize_in(t, &mut work);
-    let written = bytes::copy(&work[..end], out);
-    written / particle::RECORD_SIZE
+    out[..end].copy_from_slice(&work[..end]);
+    end / particle::RECORD_SIZE
 }

@@ -1,0 +1,13 @@
+-- `tidying::keep` meets its contract. Assumes nothing.
+use borrow.Author.Rules.{rules}
+use Rattle.tidying.proofs.KeepStep.{dropped, opened, stays}
+use Rattle.tidying.proofs.keep.Goals as goal
+
+pub returns-then-never : goal.returns-then-never
+returns-then-never c = search dropped
+
+pub returns-then-splices : goal.returns-then-splices
+returns-then-splices c = search opened
+
+pub returns : goal.returns
+returns c = search stays
