@@ -2,10 +2,10 @@
 use mathlib.Core.Bool.{Bool}
 use mathlib.Core.Path.{◌≡◌, refl, ap, sym, ◌∙◌}
 use mathlib.Core.List.{List, [], ◌∷◌}
-use Prim.Native.Nat.{ℕ, zero, suc, ◌+◌, ◌*◌, ◌-◌, ◌/◌, ◌%◌, ◌≤◌, ◌<◌}
+use Prim.Native.Nat.{ℕ, suc, ◌+◌, ◌*◌, ◌-◌, ◌/◌, ◌%◌, ◌≤◌, ◌<◌}
 use native.Mathlib.Omega.{arith}
 use lib.ListN.{length, take, drop, get_or, set, length-drop, length-set}
-use lib.Seq.{sets, length-sets, take-take, take-add, drop_at, length-take-le, drop-drop, drop-length, get_or-drop, get_or-take, take-set-le, drop-set-lt, drop-set-add, get_or-set_same, get_or-set_other}
+use lib.Seq.{sets, length-sets, take-take, take-add, drop_at, length-take-le, drop-drop, drop-length, get_or-take, take-set-le, drop-set-lt, drop-set-add, get_or-set_same, get_or-set_other}
 use Rattle.particle.specs.declared.Record.{Record}
 use Rattle.particle.specs.Record.{record_size, max_records, at_kind, at_leaf, at_count, at_unbounded, at_zero, at_size, at_min, at_max, half, half_bytes, word, record_at}
 use Rattle.particle.specs.Tree.{take_i, count_i, size_i, head_of, build, records, decode, first_of, tree}

@@ -8,7 +8,7 @@ use lib.ListN.{length, drop, length-drop}
 use Rattle.particle.specs.declared.Record.{Record}
 use Rattle.particle.specs.Record.{record_size, max_records, record_at}
 use Rattle.particle.specs.Tree.{take_i, size_i, build, records, decode, tree}
-use Rattle.particle.specs.Rows.{Row, row, run_size, items_part, later_part}
+use Rattle.particle.specs.Rows.{row, run_size, items_part, later_part}
 use Rattle.particle.specs.Empty.{emptiable}
 use Rattle.particle.specs.Runs.{note_of, Noted, Measured, Run, RunIf}
 use Rattle.particle.proofs.Records.{records_cons, records_drop, length_records}

@@ -8,7 +8,7 @@ use borrow.Rule.Slice.PartMut.{mid_of, put_mid}
 use borrow.Table.Referent.{f_int}
 use mir.Syntax.{w8, w64}
 use mir.Val.{Fits}
-use lib.ListN.{length, take, drop}
+use lib.ListN.{length, take}
 use lib.Seq.{length-take-le}
 use Rattle.particle.specs.Rows.{row, run_size}
 use Rattle.particle.specs.Encode.{encode}
@@ -28,10 +28,10 @@ module _ {t out : List ℕ} {at : ℕ} (q : Room t 1 out at) {n : ℕ} (e : n �
   pub run_length : n ≡ length (take n t)
   run_length = sym (length-take-le n t (rw e (run_within t)))
 
-  pub run_fits : length (take n t) ≤ length (mid_of at (at + n - at) out)
+  pub run_fits : length (mid_of at (at + n - at) out) ≡ length (take n t)
   run_fits = omega (arith, run_length, part_length out at n in_out)
 
-  pub copied : Fit (f_int w8) 0 t → {s : List ℕ} → s ≡ take (length (take n t)) (take n t) ++ drop (length (take n t)) (mid_of at (at + n - at) out)
+  pub copied : Fit (f_int w8) 0 t → {s : List ℕ} → s ≡ take n t
       → Laid out (put_mid at (at + n - at) out s) at (at + n) (row 1 t)
   copied known k =
       let b = bytes_from t (λ i. omega (arith, known i)) in

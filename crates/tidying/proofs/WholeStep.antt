@@ -4,7 +4,7 @@ use mathlib.Core.List.{List, ◌++◌}
 use Prim.Native.Nat.{ℕ, ◌*◌, ◌/◌, ◌≤◌}
 use native.Mathlib.Omega.{arith}
 use lib.ListN.{length, take, drop}
-use lib.Seq.{take-length, length-take-le}
+use lib.Seq.{length-take-le}
 use Rattle.particle.specs.Record.{record_size, max_records}
 use Rattle.particle.specs.Tree.{size_i, records, tree}
 use Rattle.particle.specs.Rows.{Row, row}
@@ -31,17 +31,25 @@ module _ {t : List ℕ} (w : Row 1 t) where
     pub part_length : end ≡ length (take end work)
     part_length = sym (length-take-le end work a.within)
 
-    pub part_fits : {n : ℕ} → length t ≤ n → length (take end work) ≤ n
-    part_fits l =
+    pub end_fits : {n : ℕ} → length t ≤ n → end ≤ n
+    end_fits l =
         let fewer : size_i (tidied t) ≤ size_i (row 1 t) = rw (row_one w) (tidy_smaller (tree t)) in
-        omega (arith, part_length, end_is, fewer, row_fits)
+        omega (arith, end_is, fewer, row_fits)
 
-    pub records_written : {n : ℕ} → n ≡ length (take end work) → n / record_size ≡ size_i (tidied t)
-    records_written e = omega (arith, e, part_length, end_is)
+    -- the part of a buffer that is long enough has the length of what was written
+    pub out_length : (out : List ℕ) → length t ≤ length out → end ≡ length (take end out)
+    out_length out l = sym (length-take-le end out (end_fits l))
 
-    pub tree_written : {after : List ℕ} (before : List ℕ) → after ≡ take (length (take end work)) (take end work) ++ drop (length (take end work)) before
-        → after ≡ encode (tidied t) ++ drop (length (encode (tidied t))) before
-    tree_written before k = k ∙ rw (a.holds, take-length (encode (tidied t)))
+    pub same_length : (out : List ℕ) → length t ≤ length out → length (take end out) ≡ length (take end work)
+    same_length out l = sym (out_length out l) ∙ part_length
+
+    pub records_written : end / record_size ≡ size_i (tidied t)
+    records_written = omega (arith, end_is)
+
+    pub tree_written : {s : List ℕ} (before : List ℕ) → s ≡ take end work → s ++ drop end before ≡ encode (tidied t) ++ drop (length (encode (tidied t))) before
+    tree_written before k =
+        let e : length (encode (tidied t)) ≡ end = sym (ap length a.holds) ∙ sym part_length in
+        rw (k, a.holds, e)
 
 pub starts_with : {t before out : List ℕ} {r : Written} → Writes t before out 0 (tidied t) r → StartsWith t out r.end
 starts_with w = record { within = laid_within (omega arith) w.laid; holds = w.laid.holds }

@@ -1,7 +1,7 @@
 -- What document 01's caps gave is known from the total range, whose exact numbers are cut once: it did not matter where in the tree a number grew too large. Assumes nothing.
 use mathlib.Core.List.{List, ◌∷◌}
 use mathlib.Core.Path.{◌≡◌, refl, ap, ap₂, sym, ◌∙◌}
-use Prim.Native.Nat.{ℕ, zero, suc, ◌+◌, ◌*◌, ◌≤◌, ◌<◌, min, max}
+use Prim.Native.Nat.{ℕ, zero, suc, ◌+◌, ◌*◌, ◌≤◌, ◌<◌, max}
 use native.Mathlib.Decide.{dec_le}
 use native.Mathlib.Nat.{zero-mul}
 use native.Mathlib.Omega.{arith}

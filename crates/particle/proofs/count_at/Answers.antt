@@ -1,5 +1,4 @@
 -- `particle::count_at` meets its contract. Assumes nothing.
-use borrow.Author.Rules.{rules}
 use mathlib.Core.Path.{sym, ◌∙◌}
 use Rattle.particle.specs.Record.{at_count}
 use Rattle.particle.proofs.Records.{half_drop}

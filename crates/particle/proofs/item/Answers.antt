@@ -2,7 +2,6 @@
 use mathlib.Core.Path.{ap}
 use Prim.Native.Nat.{ℕ, ◌+◌}
 use native.Mathlib.Omega.{arith}
-use borrow.Author.Rules.{rules}
 use Rattle.particle.proofs.ItemWalk.{item_whole, item_within, item_is}
 use Rattle.particle.proofs.item.Goals as goal
 

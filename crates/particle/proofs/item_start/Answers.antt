@@ -1,8 +1,6 @@
 -- `particle::item_start` meets its contract. Assumes nothing.
-use Prim.Native.Nat.{◌-◌, ◌+◌}
 use native.Mathlib.Omega.{arith}
-use borrow.Author.Rules.{rules}
-use Rattle.particle.proofs.ItemWalk.{Walk, begin, run_whole, run_passed, arrived}
+use Rattle.particle.proofs.ItemWalk.{begin, run_whole, run_passed, arrived}
 use Rattle.particle.proofs.item_start.Goals as goal
 
 pub loop-i-init : goal.loop-i-init

@@ -1,8 +1,6 @@
 -- `particle::item_start` meets its contract. Assumes nothing.
-use Prim.Native.Nat.{◌-◌, ◌+◌}
-use native.Mathlib.Omega.{arith}
-use borrow.Author.Rules.{rules}
-use Rattle.particle.proofs.ItemWalk.{Walk, begin, run_whole, run_passed, arrived}
+use Prim.Native.Nat.{◌-◌}
+use Rattle.particle.proofs.ItemWalk.{Walk}
 use Rattle.particle.proofs.item_start.Given as goal
 
 abbrev pub invariant-loop-i : goal.invariant-loop-i

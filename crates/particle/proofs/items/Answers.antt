@@ -1,5 +1,4 @@
 -- `particle::items` meets its contract. Assumes nothing.
-use borrow.Author.Rules.{rules}
 use Rattle.particle.specs.Record.{record_size}
 use Rattle.particle.proofs.Laws.{part_is, some_bytes}
 use Rattle.particle.proofs.items.Goals as goal

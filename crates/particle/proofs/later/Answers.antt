@@ -1,5 +1,4 @@
 -- `particle::later` meets its contract. Assumes nothing.
-use borrow.Author.Rules.{rules}
 use Rattle.particle.proofs.Laws.{end_within, later_is}
 use Rattle.particle.proofs.later.Goals as goal
 

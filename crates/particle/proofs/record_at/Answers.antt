@@ -1,5 +1,4 @@
 -- `particle::record_at` meets its contract. Assumes nothing.
-use borrow.Author.Rules.{rules}
 use Rattle.particle.proofs.record_at.Goals as goal
 
 pub returns : goal.returns

@@ -1,9 +1,6 @@
 -- `particle::run_len` meets its contract: at each turn one record is passed, and its items are awaited. Assumes nothing.
-use Prim.Native.Nat.{◌-◌, ◌+◌}
 use native.Mathlib.Omega.{arith}
-use lib.ListN.{length}
-use Rattle.particle.specs.Record.{record_size}
-use Rattle.particle.proofs.Run.{Running, start, room, record_left, record_passed, run_ended}
+use Rattle.particle.proofs.Run.{start, room, record_left, record_passed, run_ended}
 use Rattle.particle.proofs.run_len.Goals as goal
 
 pub loop-pending-init : goal.loop-pending-init

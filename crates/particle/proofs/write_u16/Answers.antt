@@ -1,8 +1,6 @@
 -- `particle::write_u16` meets its contract. Assumes nothing.
-use Prim.Native.Nat.{◌/◌, ◌%◌}
 use native.Mathlib.Omega.{arith}
 use lib.ListN.{length-set}
-use borrow.Author.Rules.{rules}
 use Rattle.particle.proofs.Store.{two_stored}
 use Rattle.particle.proofs.write_u16.Goals as goal
 

@@ -3,7 +3,6 @@ use Prim.Native.Nat.{◌/◌, ◌%◌}
 use native.Mathlib.Omega.{arith}
 use lib.ListN.{length-set}
 use Rattle.particle.proofs.Store.{four_stored}
-use borrow.Author.Rules.{rules}
 use Rattle.particle.proofs.write_u32.Goals as goal
 
 pub bounds-out-at-2 : goal.bounds-out-at-2

@@ -1,10 +1,8 @@
 -- `tidying::tidy_tree` and `tidy_items` meet their contracts. A call goes to a shorter part, or from a tree to its items. Each answer names its law;
-use Prim.Native.Nat.{ℕ, ◌+◌, ◌*◌, ◌<◌}
 use native.Mathlib.Omega.{arith}
 use borrow.Author.Rules.{rules}
-use lib.ListN.{length}
 use Rattle.particle.proofs.Laws.{some_bytes}
-use Rattle.tidying.proofs.ItemsStep.{ItemsLeft, none_read, kept_stand, item_room, item_stands, read_within, read_fits, item_read, all_read, closes}
+use Rattle.tidying.proofs.ItemsStep.{none_read, kept_stand, item_room, item_stands, read_within, read_fits, item_read, all_read, closes}
 use Rattle.tidying.proofs.TreeStep.{record_fits, record_end_fits, bare, unaltered}
 use Rattle.tidying.proofs.+tidy.Goals as goal
 

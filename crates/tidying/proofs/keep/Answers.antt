@@ -1,5 +1,4 @@
 -- `tidying::keep` meets its contract. Assumes nothing.
-use borrow.Author.Rules.{rules}
 use Rattle.tidying.proofs.KeepStep.{dropped, opened, stays}
 use Rattle.tidying.proofs.keep.Goals as goal
 

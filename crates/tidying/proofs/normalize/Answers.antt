@@ -1,18 +1,19 @@
 -- `tidying::normalize` meets its contract. Assumes nothing.
-use native.Mathlib.Omega.{arith}
-use borrow.Author.Rules.{rules}
-use Rattle.tidying.proofs.WholeStep.{part_length, part_fits, records_written, tree_written}
+use Rattle.std.proofs.Common.{rules}
+use Rattle.tidying.proofs.WholeStep.{part_length, end_fits, out_length, same_length, records_written, tree_written}
 use Rattle.tidying.proofs.normalize.Goals as goal
 
-pub normalize_in-end-requires : goal.normalize_in-end-requires
-normalize_in-end-requires c = let p = c.requires in
-    record { row = p.0; faithful = p.1.0; t_in_bounds = p.1.1.0; out_len_bound = omega arith }
+pub slice_bounds-copy_from_slice-end : goal.slice_bounds-copy_from_slice-end
+slice_bounds-copy_from_slice-end c = search (end_fits, rules)
 
 pub slice_bounds-copy_from_slice-end-2 : goal.slice_bounds-copy_from_slice-end-2
-slice_bounds-copy_from_slice-end-2 c = search part_length
+slice_bounds-copy_from_slice-end-2 c = search (out_length, rules)
 
-pub slice_bounds-work-end : goal.slice_bounds-work-end
-slice_bounds-work-end c = search (part_fits, rules)
+pub slice_bounds-copy_from_slice-end-3 : goal.slice_bounds-copy_from_slice-end-3
+slice_bounds-copy_from_slice-end-3 c = search part_length
 
 pub copy_from_slice-requires : goal.copy_from_slice-requires
-copy_from_slice-requires c = (search records_written, search tree_written)
+copy_from_slice-requires c = search (same_length, rules)
+
+pub returns : goal.returns
+returns c = record { value = search records_written; out_after = search tree_written }

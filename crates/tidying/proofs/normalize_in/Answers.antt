@@ -1,5 +1,4 @@
 -- `tidying::normalize_in` meets its contract. Assumes nothing.
-use borrow.Author.Rules.{rules}
 use Rattle.tidying.proofs.WholeStep.{whole_room, starts_with}
 use Rattle.tidying.proofs.normalize_in.Goals as goal
 

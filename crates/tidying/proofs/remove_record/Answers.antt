@@ -1,6 +1,6 @@
 -- `tidying::remove_record` meets its contract. Assumes nothing.
 use native.Mathlib.Omega.{arith}
-use Rattle.tidying.proofs.MoveStep.{Moved, move_start, same_size, move_next, move_done}
+use Rattle.tidying.proofs.MoveStep.{move_start, move_next, move_done}
 use Rattle.tidying.proofs.remove_record.Goals as goal
 
 pub loop-i-init : goal.loop-i-init

@@ -1,7 +1,6 @@
 -- `tidying::remove_record` meets its contract. Assumes nothing.
 use Prim.Native.Nat.{◌-◌}
-use native.Mathlib.Omega.{arith}
-use Rattle.tidying.proofs.MoveStep.{Moved, move_start, same_size, move_next, move_done}
+use Rattle.tidying.proofs.MoveStep.{Moved}
 use Rattle.tidying.proofs.remove_record.Given as goal
 
 abbrev pub invariant-loop-i : goal.invariant-loop-i

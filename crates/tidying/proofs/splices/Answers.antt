@@ -1,5 +1,4 @@
 -- `tidying::splices` meets its contract. Assumes nothing.
-use borrow.Author.Rules.{rules}
 use Rattle.tidying.proofs.KindTests.{untidied_splices, other_kind_splices, own_kind_splices}
 use Rattle.tidying.proofs.splices.Goals as goal
 

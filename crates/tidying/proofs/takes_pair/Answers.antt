@@ -1,5 +1,4 @@
 -- `tidying::takes_pair` meets its contract. Assumes nothing.
-use borrow.Author.Rules.{rules}
 use Rattle.tidying.proofs.KindTests.{no_sequence_takes, no_choice_takes, choice_takes}
 use Rattle.tidying.proofs.takes_pair.Goals as goal
 

@@ -1,5 +1,4 @@
 -- `tidying::tidies` meets its contract. Assumes nothing.
-use borrow.Author.Rules.{rules}
 use Rattle.tidying.proofs.KindTests.{tidied_choice}
 use Rattle.tidying.proofs.tidies.Goals as goal
 

@@ -1,15 +1,8 @@
 -- `totals::effective_total_range`, `sum_of` and `span_of` meet their contracts. A call goes to a shorter part, or from a row to one of its trees. Assumes nothing.
-use Prim.Native.Nat.{ℕ, ◌<◌}
-use native.Mathlib.Nat.{pos_of_ne-zero}
-use native.Mathlib.Omega.{arith}
-use borrow.Author.Rules.{rules}
 use Rattle.particle.specs.Runs.{RunIf}
-use Rattle.particle.proofs.Laws.{some_bytes}
-use Rattle.particle.proofs.Runs.{first_if, rest_if, items_if}
 use Rattle.totals.specs.Exact.{sum, span}
-use Rattle.particle.proofs.Falls.{of_tree, of_row, first_row, part_first, part_falls, items_trees, items_fall}
-use Rattle.totals.proofs.FirstTotal.{leaf_total, choice_total, ordered_total}
-use Rattle.totals.proofs.Gathered.{Gathered, sums, spans, span_none, sum_start, span_start, leaf_item, gathered_next, gathered_end}
+use Rattle.particle.proofs.Falls.{of_tree, of_row}
+use Rattle.totals.proofs.Gathered.{Gathered}
 use Rattle.totals.proofs.+total.Given as goal
 
 abbrev pub decreases-effective_total_range : goal.decreases-effective_total_range

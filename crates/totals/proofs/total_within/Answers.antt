@@ -1,5 +1,4 @@
 -- `totals::total_within` meets its contract. Assumes nothing.
-use borrow.Author.Rules.{rules}
 use Rattle.totals.proofs.Within.{any_number_lem}
 use Rattle.totals.proofs.total_within.Goals as goal
 

@@ -1,5 +1,4 @@
 -- `measured::after` meets its contract. Assumes nothing.
-use borrow.Author.Rules.{rules}
 use Rattle.particle.proofs.Runs.{if_run}
 use Rattle.particle.proofs.measured.after.Goals as goal
 

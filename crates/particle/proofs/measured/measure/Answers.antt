@@ -1,7 +1,7 @@
 -- `measured::measure` meets its contract. Assumes nothing.
 use native.Mathlib.Omega.{arith}
 use lib.ListN.{length-set}
-use Rattle.particle.proofs.MeasureStep.{MeasuredFrom, none_measured, all_measured, bare_measured, tree_lent, items_lent, some_lent, found_lent, size_fits, noted_measured}
+use Rattle.particle.proofs.MeasureStep.{none_measured, all_measured, bare_measured, tree_lent, items_lent, some_lent, found_lent, size_fits, noted_measured}
 use Rattle.particle.proofs.measured.measure.Goals as goal
 
 pub loop-at-init : goal.loop-at-init

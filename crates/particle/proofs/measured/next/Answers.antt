@@ -1,9 +1,4 @@
 -- `measured::next` meets its contract. Assumes nothing.
-use mathlib.Core.Path.{◌≡◌}
-use Prim.Native.Nat.{◌*◌}
-use borrow.Author.Rules.{rules}
-use Rattle.particle.specs.Record.{record_size}
-use Rattle.particle.specs.Rows.{run_size}
 use Rattle.particle.proofs.Laws.{some_bytes, end_within, later_is}
 use Rattle.particle.proofs.Runs.{bare_later, told_end}
 use Rattle.particle.proofs.measured.next.Goals as goal

@@ -1,7 +1,7 @@
 -- `measured::walk` meets its contract. Assumes nothing.
 use native.Mathlib.Omega.{arith}
 use Rattle.particle.proofs.Runs.{run_le, row_done}
-use Rattle.particle.proofs.Found.{Walked, walk_start, walk_next, walk_done}
+use Rattle.particle.proofs.Found.{walk_start, walk_next, walk_done}
 use Rattle.particle.proofs.measured.walk.Goals as goal
 
 pub loop-left-init : goal.loop-left-init

@@ -1,7 +1,5 @@
 -- `measured::walk` meets its contract. Assumes nothing.
-use native.Mathlib.Omega.{arith}
-use Rattle.particle.proofs.Runs.{run_le, row_done}
-use Rattle.particle.proofs.Found.{Walked, walk_start, walk_next, walk_done}
+use Rattle.particle.proofs.Found.{Walked}
 use Rattle.particle.proofs.measured.walk.Given as goal
 
 abbrev pub invariant-loop-left : goal.invariant-loop-left

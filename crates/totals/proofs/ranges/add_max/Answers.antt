@@ -1,5 +1,4 @@
 -- `totals::ranges::add_max` meets its contract. Assumes nothing.
-use borrow.Author.Rules.{rules}
 use Rattle.totals.specs.Total.{cut_bounded}
 use Rattle.totals.specs.Cut.{add_cut_max}
 use Rattle.totals.proofs.Cuts.{of_left, of_both_lem, computed}

@@ -1,5 +1,4 @@
 -- `totals::ranges::add_min` meets its contract. Assumes nothing.
-use borrow.Author.Rules.{rules}
 use Rattle.totals.specs.Total.{cut_min}
 use Rattle.totals.specs.Cut.{add_cut_min}
 use Rattle.totals.proofs.Cuts.{of_left, of_both_lem, computed}

@@ -1,5 +1,4 @@
 -- `totals::ranges::add_range` meets its contract: the minimum and the maximum are its callees'. Assumes nothing.
-use borrow.Author.Rules.{rules}
 use Rattle.totals.proofs.Cuts.{same_range}
 use Rattle.totals.proofs.ranges.add_range.Goals as goal
 

@@ -1,7 +1,6 @@
 -- `totals::ranges::cut_bounded` meets its contract. Assumes nothing.
 use mathlib.Core.Path.{sym}
 use native.Mathlib.Omega.{arith}
-use borrow.Author.Rules.{rules}
 use Rattle.totals.proofs.Cuts.{bounded_within, bounded_above}
 use Rattle.totals.proofs.ranges.cut_bounded.Goals as goal
 

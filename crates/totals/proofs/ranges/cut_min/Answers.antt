@@ -1,7 +1,6 @@
 -- `totals::ranges::cut_min` meets its contract. Assumes nothing.
 use mathlib.Core.Path.{sym}
 use native.Mathlib.Omega.{arith}
-use borrow.Author.Rules.{rules}
 use Rattle.totals.proofs.Cuts.{min_within, min_above}
 use Rattle.totals.proofs.ranges.cut_min.Goals as goal
 

@@ -1,5 +1,4 @@
 -- `totals::ranges::max_max` meets its contract. Assumes nothing.
-use borrow.Author.Rules.{rules}
 use Rattle.totals.specs.Cut.{max_cut_max}
 use Rattle.totals.proofs.Cuts.{of_left, of_both_lem}
 use Rattle.totals.proofs.ranges.max_max.Goals as goal

@@ -1,5 +1,4 @@
 -- `totals::ranges::min_min` meets its contract. Assumes nothing.
-use borrow.Author.Rules.{rules}
 use Rattle.totals.specs.Cut.{min_cut_min}
 use Rattle.totals.proofs.Cuts.{of_left, of_both_lem}
 use Rattle.totals.proofs.ranges.min_min.Goals as goal

@@ -1,5 +1,4 @@
 -- `totals::ranges::mul_max` meets its contract. Assumes nothing.
-use borrow.Author.Rules.{rules}
 use Rattle.totals.specs.Cut.{mul_cut_max}
 use Rattle.totals.proofs.Cuts.{of_left}
 use Rattle.totals.proofs.ranges.mul_max.Goals as goal

@@ -1,5 +1,4 @@
 -- `totals::ranges::mul_min` meets its contract. Assumes nothing.
-use borrow.Author.Rules.{rules}
 use Rattle.totals.specs.Cut.{mul_cut_min}
 use Rattle.totals.proofs.Cuts.{of_right, of_both_lem, mul_too_large}
 use Rattle.totals.proofs.ranges.mul_min.Goals as goal

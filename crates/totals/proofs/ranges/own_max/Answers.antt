@@ -1,5 +1,4 @@
 -- `totals::ranges::own_max` meets its contract. Assumes nothing.
-use borrow.Author.Rules.{rules}
 use Rattle.totals.specs.Total.{cut_max}
 use Rattle.totals.proofs.Cuts.{of_one}
 use Rattle.totals.proofs.ranges.own_max.Goals as goal

@@ -1,5 +1,4 @@
 -- `totals::ranges::product_max` meets its contract. Assumes nothing.
-use borrow.Author.Rules.{rules}
 use Rattle.totals.specs.Total.{cut_bounded}
 use Rattle.totals.proofs.Cuts.{computed}
 use Rattle.totals.proofs.ranges.product_max.Goals as goal

@@ -1,5 +1,4 @@
 -- `totals::ranges::product_min` meets its contract. Assumes nothing.
-use borrow.Author.Rules.{rules}
 use Rattle.totals.specs.Total.{cut_min}
 use Rattle.totals.proofs.Cuts.{computed}
 use Rattle.totals.proofs.ranges.product_min.Goals as goal

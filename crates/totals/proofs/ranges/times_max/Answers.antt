@@ -1,5 +1,4 @@
 -- `totals::ranges::times_max` meets its contract. Assumes nothing.
-use borrow.Author.Rules.{rules}
 use Rattle.totals.specs.Cut.{times_cut_max}
 use Rattle.totals.proofs.Cuts.{of_right}
 use Rattle.totals.proofs.ranges.times_max.Goals as goal

@@ -1,5 +1,4 @@
 -- `totals::ranges::times_open` meets its contract. Assumes nothing.
-use borrow.Author.Rules.{rules}
 use Rattle.totals.proofs.Cuts.{times_some}
 use Rattle.totals.proofs.ranges.times_open.Goals as goal
 

@@ -1,5 +1,4 @@
 -- `totals::ranges::total_max_ok` meets its contract. Assumes nothing.
-use borrow.Author.Rules.{rules}
 use Rattle.totals.specs.Total.{total_max_ok}
 use Rattle.totals.proofs.Cuts.{of_right, of_both_lem}
 use Rattle.totals.proofs.ranges.total_max_ok.Goals as goal

@@ -1,7 +1,6 @@
 -- `totals::ranges::total_min_ok` meets its contract. Assumes nothing.
 use Prim.Native.Nat.{◌≤◌}
 use native.Mathlib.Omega.{arith}
-use borrow.Author.Rules.{rules}
 use Rattle.totals.specs.Total.{total_min_ok}
 use Rattle.totals.proofs.Cuts.{of_left, min_not_below}
 use Rattle.totals.proofs.ranges.total_min_ok.Goals as goal

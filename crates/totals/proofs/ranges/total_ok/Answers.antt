@@ -1,5 +1,4 @@
 -- `totals::ranges::total_ok` meets its contract. Assumes nothing.
-use borrow.Author.Rules.{rules}
 use Rattle.totals.proofs.Cuts.{test_decides, test_fails}
 use Rattle.totals.proofs.ranges.total_ok.Goals as goal
 

@@ -1,5 +1,4 @@
 -- `totals::ranges::unbounded_times` meets its contract. Assumes nothing.
-use borrow.Author.Rules.{rules}
 use Rattle.totals.specs.Cut.{unbounded_times}
 use Rattle.totals.proofs.Cuts.{of_one}
 use Rattle.totals.proofs.ranges.unbounded_times.Goals as goal
