@@ -6,14 +6,12 @@ use native.Mathlib.Decide.{dec_lt}
 use native.Mathlib.Omega.{arith}
 use lib.Dec.{ltb}
 use lib.ListN.{replicate, length-replicate, get_or-replicate}
-use borrow.Author.Rules.{rules}
 use borrow.Author.Tests.{lt-ltb, le-ltb}
 use Rattle.intake.specs.declared.Checked.{Checked}
 use Rattle.intake.specs.Limits.{max_leaves}
 use Rattle.intake.specs.Faults.{Known}
 use Rattle.intake.specs.Scan.{listed, alone, refusal_in}
-use Rattle.intake.proofs.check_alone.Statement.{statement}
-use Rattle.intake.proofs.check_alone.Tie as tie
+use Rattle.intake.proofs.check_alone.Goals as goal
 
 either : (n kind leaf : ℕ) → listed (replicate n 2) kind leaf ≡ ltb leaf n
 either n kind leaf = go (dec_lt leaf n)
@@ -27,5 +25,5 @@ either n kind leaf = go (dec_lt leaf n)
 refusal_alone_lem : (t : List ℕ) {r : Checked} → r ≡ refusal_in (listed (replicate max_leaves 2)) t → r ≡ refusal_in alone t
 refusal_alone_lem t e = e ∙ ap (λ (known : Known). refusal_in known t) (fun_ext (λ kind. fun_ext (either max_leaves kind)))
 
-pub check_alone_spec : {M : Type 1} → statement M
-check_alone_spec = tie.close (tie.spec (λ c. search rules) (λ c κs. search rules) (λ c. search refusal_alone_lem))
+pub returns : goal.returns
+returns c = search refusal_alone_lem
