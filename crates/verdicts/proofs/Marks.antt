@@ -1,22 +1,18 @@
 -- One check after another: the code's verdicts and tests against the marks that combine them. Assumes nothing.
 use mathlib.Core.Bool.{Bool, true, false}
-use mathlib.Core.Logic.{◌⊎◌, ⊎_elim}
 use mathlib.Core.Path.{◌≡◌, refl, ap, sym, ◌∙◌}
 use Prim.Native.Nat.{ℕ, ◌≤◌, ◌<◌}
-use native.Mathlib.Omega.{arith}
 use borrow.Author.Tests.{le-leb, lt-leb}
 use lib.Dec.{leb}
-use denote.Enum.Declared.{tag_of}
 use Rattle.rules.specs.Verdicts.{Mark, undecided, fails}
 use Rattle.rules.specs.Combine.{◌or_fails◌, ◌and_then◌}
 use Rattle.verdicts.specs.declared.Verdict.{Verdict}
 use Rattle.verdicts.specs.declared.Verdict.TheVariants.{Ok, Unknown, Violation}
 use Rattle.verdicts.specs.Reasons.{mark_of, definite_of}
-use Rattle.verdicts.specs.contracts.Verdict.{the_type}
 
 -- the other variants, as a `let .. else` tells them
 abbrev pub NotOk : Verdict → Type 0
-NotOk v = (tag_of the_type v ≡ 1) ⊎ (tag_of the_type v ≡ 2)
+NotOk v = v ≡ Ok → ⊥
 
 -- v stands for the first mark, which ends it or not
 module _ {m : Mark} (rest : Mark) where
@@ -24,7 +20,7 @@ module _ {m : Mark} (rest : Mark) where
   ended v e t = go v t ∙ ap (λ (x : Mark). x and_then rest) e
     where
       go : (v : Verdict) → NotOk v → mark_of v ≡ mark_of v and_then rest
-      go Ok t = absurd (⊎_elim (λ (e : ◌≡◌ {A = ℕ} 0 1). omega arith) (λ (e : ◌≡◌ {A = ℕ} 0 2). omega arith) t)
+      go Ok t = absurd (t refl)
       go Unknown t = refl
       go (Violation r) t = refl
 

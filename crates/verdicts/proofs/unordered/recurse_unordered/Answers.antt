@@ -2,18 +2,16 @@
 use mathlib.Core.Path.{◌≡◌, ap, ◌∙◌}
 use mathlib.Core.Bool.{false}
 use Prim.Native.Nat.{ℕ}
-use borrow.Author.Rules.{rules}
 use lib.ListN.{replicate}
 use Rattle.particle.specs.Tree.{Items}
 use Rattle.rules.specs.Verdicts.{Mark, Leaves, Tables}
 use Rattle.rules.specs.Walk.{recurse_unordered}
 use Rattle.verdicts.specs.Taken.{untaken_items}
 use Rattle.verdicts.proofs.Flags.{none_taken}
-use Rattle.verdicts.proofs.unordered.recurse_unordered.Statement.{statement}
-use Rattle.verdicts.proofs.unordered.recurse_unordered.Tie as tie
+use Rattle.verdicts.proofs.unordered.recurse_unordered.Goals as goal
 
 all_free : (L : Leaves) (T : Tables) (x y : Items) (n : ℕ) {m : Mark} → m ≡ recurse_unordered L T x (untaken_items (replicate n false) y) → m ≡ recurse_unordered L T x y
 all_free L T x y n e = e ∙ ap (recurse_unordered L T x) (none_taken n y)
 
-pub recurse_unordered_spec : {M : Type 1} → statement M
-recurse_unordered_spec = tie.close (tie.spec (λ c. search rules) (λ c κs. search rules) (λ c. search all_free))
+pub returns : goal.returns
+returns c = search all_free

@@ -1,13 +1,10 @@
 -- `leaves::verdict_at` meets its contract. Assumes nothing.
 use mathlib.Core.Path.{◌≡◌, refl, ap, sym, ◌∙◌}
 use Prim.Native.Nat.{ℕ, zero, suc}
-use borrow.Author.Rules.{rules}
 use Rattle.rules.specs.Verdicts.{passes, undecided, fails}
 use Rattle.verdicts.specs.Paper.{paper_reason, verdict_of}
-use Rattle.verdicts.proofs.leaves.verdict_at.Statement.{statement}
-use Rattle.verdicts.proofs.leaves.verdict_at.Tie as tie
+use Rattle.verdicts.proofs.leaves.verdict_at.Goals as goal
 
--- v is the byte w of the tables: ok, undecided, or neither
 module _ {v w : ℕ} (e : v ≡ w) where
   an_ok : v ≡ 0 → passes ≡ verdict_of w
   an_ok z = ap verdict_of (sym z ∙ e)
@@ -23,5 +20,11 @@ module _ {v w : ℕ} (e : v ≡ w) where
       go (suc zero) z o = absurd (o refl)
       go (suc (suc v)) z o = refl
 
-pub verdict_at_spec : {M : Type 1} → statement M
-verdict_at_spec = tie.close (tie.spec (λ c κs. search rules) (λ c. search an_ok) (λ c. search an_undecided) (λ c. search a_reason))
+pub returns-in-0 : goal.returns-in-0
+returns-in-0 c = search an_ok
+
+pub returns-in-1 : goal.returns-in-1
+returns-in-1 c = search an_undecided
+
+pub returns-in_default : goal.returns-in_default
+returns-in_default c = search a_reason

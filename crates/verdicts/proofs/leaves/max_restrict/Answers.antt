@@ -1,16 +1,13 @@
 -- `leaves::max_restrict` meets its contract. Assumes nothing.
 use mathlib.Core.Path.{◌≡◌, refl}
 use Prim.Native.Nat.{ℕ, ◌≤◌, ◌<◌}
-use borrow.Author.Rules.{rules}
 use borrow.Author.Tests.{le-leb, lt-leb}
 use Rattle.particle.specs.declared.MaxOccurs.{MaxOccurs}
 use Rattle.particle.specs.declared.MaxOccurs.TheVariants.{Bounded, Unbounded}
 use Rattle.rules.specs.Verdicts.{passes, fails}
 use Rattle.rules.specs.Element.{max_restrict}
-use Rattle.verdicts.proofs.leaves.max_restrict.Statement.{statement}
-use Rattle.verdicts.proofs.leaves.max_restrict.Tie as tie
+use Rattle.verdicts.proofs.leaves.max_restrict.Goals as goal
 
--- the derived maximum against the base's, each as its arm has it
 module _ (d : MaxOccurs) {b : MaxOccurs} where
   base_open : b ≡ Unbounded → passes ≡ max_restrict d b
   base_open e = rw e (go d)
@@ -29,15 +26,14 @@ module _ (d : MaxOccurs) {b : MaxOccurs} where
     within : {m : ℕ} → d ≡ Bounded m → m ≤ n → passes ≡ max_restrict d b
     within f l = rw (e, f, le-leb _ _ l)
 
-pub max_restrict_spec : {M : Type 1} → statement M
-max_restrict_spec =
-    tie.close
-    (tie.spec
-    (λ c. search rules)
-    (λ c. search rules)
-    (λ c. search rules)
-    (λ c. search rules)
-    (λ c. search above)
-    (λ c. search base_open)
-    (λ c. search derived_open)
-    (λ c. search within))
+pub returns-then-n-m : goal.returns-then-n-m
+returns-then-n-m c = search above
+
+pub returns-in-Unbounded : goal.returns-in-Unbounded
+returns-in-Unbounded c = search base_open
+
+pub returns-in-Unbounded-d : goal.returns-in-Unbounded-d
+returns-in-Unbounded-d c = search derived_open
+
+pub returns-else-n-m : goal.returns-else-n-m
+returns-else-n-m c = search within

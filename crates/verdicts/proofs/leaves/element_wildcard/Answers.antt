@@ -1,0 +1,9 @@
+-- `leaves::element_wildcard` meets its contract. Assumes nothing.
+use Rattle.verdicts.proofs.Marks.{holds, breaks}
+use Rattle.verdicts.proofs.leaves.element_wildcard.Goals as goal
+
+pub returns-then-range_ok : goal.returns-then-range_ok
+returns-then-range_ok c = search holds
+
+pub returns : goal.returns
+returns c = search breaks

@@ -1,0 +1,5 @@
+-- `leaves::second` meets its contract. Assumes nothing.
+use Rattle.verdicts.proofs.leaves.second.Goals as goal
+
+pub returns : goal.returns
+returns c = cc
