@@ -65,6 +65,16 @@ pub record Sides (leaves tables : List ℕ) (n : ℕ) (once any : Bool) (d b : L
   pub base : Side (any_head any) b br q bs bk
   pub weighs : weight 0 d b ≡ m
 
+-- one fact after another
+pub read_side : {seen : Head → Head} {t : List ℕ} {r : Record} {p : Occurs} {s : List ℕ} {k : ℕ} → Run 1 t → r ≡ record_at t → p ≡ pair_of (seen (head_of r)) → s ≡ items_part t
+    → (k ≡ kind_number (head_of r)) × (k ≤ 4) → Side seen t r p s k
+read_side w e o b k = record { whole = w; first = e; pair = o; below = b; kind = k.0; small = k.1 }
+
+pub both : (leaves tables : List ℕ) (n : ℕ) {once any : Bool} {d b : List ℕ} {dr br : Record} {p q : Occurs} {ds bs : List ℕ} {dk bk m : ℕ}
+    → Run 1 d → Run 1 b → dr ≡ record_at d → br ≡ record_at b → p ≡ pair_of (once_head once (head_of dr)) → q ≡ pair_of (any_head any (head_of br)) → ds ≡ items_part d → bs ≡ items_part b
+    → (dk ≡ kind_number (head_of dr)) × (dk ≤ 4) → (bk ≡ kind_number (head_of br)) × (bk ≤ 4) → weight 0 d b ≡ m → Sides leaves tables n once any d b dr br p q ds bs dk bk m
+both leaves tables n dw bw de be po qo dse bse dk bk m = record { derived = read_side dw de po dse dk; base = read_side bw be qo bse bk; weighs = m }
+
 module _ {leaves tables : List ℕ} {n : ℕ} {once any : Bool} {d b : List ℕ} {dr br : Record} {p q : Occurs} {ds bs : List ℕ} {dk bk m : ℕ}
     (S : Sides leaves tables n once any d b dr br p q ds bs dk bk m) where
   -- what the calls ask: less weight, and rows of trees

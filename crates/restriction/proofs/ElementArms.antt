@@ -1,14 +1,16 @@
 -- The arms of `element_marks`: both marks of an element against a base tree, by the base's kind. Each level's two marks are made of the next level's two. Assumes nothing.
 use mathlib.Core.Bool.{true, false}
 use mathlib.Core.List.{List}
-use mathlib.Core.Path.{◌≡◌, refl, sym, ap, ◌∙◌}
+use mathlib.Core.Path.{◌≡◌, refl, sym, ◌∙◌}
 use Prim.Native.Nat.{ℕ, ◌≤◌}
 use Rattle.particle.specs.declared.Occurs.{Occurs}
 use Rattle.particle.specs.declared.Record.{Record}
 use Rattle.particle.specs.Occurs.{range_ok, exactly}
-use Rattle.particle.specs.Record.{range_of}
-use Rattle.particle.specs.Tree.{element, sequence, choice, Items, none, item, head_from, head_of, tree}
-use Rattle.particle.specs.Rows.{row}
+use Rattle.particle.specs.Record.{range_of, record_at}
+use Rattle.particle.specs.Tree.{element, sequence, choice, Items, none, item, head_from, head_of, pair_of, tree}
+use Rattle.particle.specs.Rows.{row, items_part}
+use Rattle.particle.specs.Runs.{Run}
+use Rattle.particle.specs.Encode.{kind_number}
 use Rattle.rules.specs.Verdicts.{Mark, undecided, Leaves, Tables}
 use Rattle.rules.specs.Combine.{◌or_fails◌, ◌and_then◌}
 use Rattle.rules.specs.Element.{element_restrict}
@@ -22,7 +24,7 @@ use Rattle.restriction.specs.Views.{as_once, any_head, judge}
 use Rattle.restriction.specs.Marks.{BothMarks, sequence_mark, sequence_once, choice_mark, choice_once}
 use Rattle.restriction.proofs.Heads.{any_again}
 use Rattle.restriction.proofs.Readings.{once_sequence, once_choice}
-use Rattle.restriction.proofs.Arms.{Side, side_tree}
+use Rattle.restriction.proofs.Arms.{Side, side_tree, read_side}
 
 -- The two marks at a base sequence and at a base choice of pair q, of what marks the items b: counting once, and with the pair p.
 module _ (L : Leaves) (T : Tables) (l : ℕ) (k : Items) (q : Occurs) (b : Items) where
@@ -51,6 +53,11 @@ module _ (L : Leaves) (T : Tables) (l : ℕ) (k : Items) (q : Occurs) (b : Items
 pub record Against (leaves tables : List ℕ) (n : ℕ) (d : List ℕ) (leaf : ℕ) (p : Occurs) (b : List ℕ) (br : Record) (q : Occurs) (bs : List ℕ) (bk : ℕ) : Type 0 where
   pub derived : (tree d).head ≡ element leaf p
   pub base : Side (any_head false) b br q bs bk
+
+pub against : (leaves tables : List ℕ) (n : ℕ) {d : List ℕ} {leaf : ℕ} {p : Occurs} {b : List ℕ} {br : Record} {q : Occurs} {bs : List ℕ} {bk : ℕ}
+    → (tree d).head ≡ element leaf p → Run 1 b → br ≡ record_at b → q ≡ pair_of (any_head false (head_of br)) → bs ≡ items_part b → (bk ≡ kind_number (head_of br)) × (bk ≤ 4)
+    → Against leaves tables n d leaf p b br q bs bk
+against leaves tables n h w e o b k = record { derived = h; base = read_side w e o b k }
 
 module _ {leaves tables : List ℕ} {n : ℕ} {d : List ℕ} {leaf : ℕ} {p : Occurs} {b : List ℕ} {br : Record} {q : Occurs} {bs : List ℕ} {bk : ℕ} (S : Against leaves tables n d leaf p b br q bs bk) (marks : Marks) where
   abbrev Jd : Judge

@@ -1,16 +1,16 @@
 -- An element that counts once, told by its pair: its one mark answers for it. Any other has its own pair, and its mark is the own one of two. Assumes nothing.
-use mathlib.Core.Bool.{Bool, true, false, true≢false, ◌&&◌}
+use mathlib.Core.Bool.{Bool, true, false, true≢false}
 use mathlib.Core.List.{List}
 use mathlib.Core.Path.{◌≡◌, refl, ap, sym, ◌∙◌}
 use Prim.Native.Nat.{ℕ}
 use native.Mathlib.Omega.{arith}
 use lib.Dec.{eqb}
-use borrow.Author.Tests.{eqb-true, eq-eqb, ne_eqb}
+use borrow.Author.Tests.{eqb-true}
 use Rattle.particle.specs.declared.MaxOccurs.{MaxOccurs}
 use Rattle.particle.specs.declared.MaxOccurs.TheVariants.{Bounded, Unbounded}
 use Rattle.particle.specs.declared.Occurs.{Occurs}
 use Rattle.particle.specs.Occurs.{range_ok, exactly}
-use Rattle.particle.specs.Tree.{Head, element, wildcard, sequence, choice, all, Items, none, Particle, single, pair_of, tree}
+use Rattle.particle.specs.Tree.{Head, element, wildcard, sequence, choice, all, Items, Particle, single, pair_of, tree}
 use Rattle.particle.specs.Rows.{row}
 use Rattle.particle.specs.Runs.{Run}
 use Rattle.particle.specs.Encode.{kind_number}

@@ -6,7 +6,7 @@ use native.Mathlib.Nat.{le_refl}
 use native.Mathlib.Omega.{arith}
 use lib.ListN.{length}
 use Rattle.particle.specs.Tree.{Items, none, item, Particle, take_i, count_i, decode, tree}
-use Rattle.particle.specs.Rows.{Row, row, later_part}
+use Rattle.particle.specs.Rows.{row, later_part}
 use Rattle.particle.specs.Runs.{Run}
 use Rattle.particle.proofs.Trees.{count_i_take}
 use Rattle.particle.proofs.Laws.{row_is, later_shorter}

@@ -1,6 +1,5 @@
 -- The two readings of an element that counts once: both ask the same of the base's pair and of its items. Assumes nothing.
 use mathlib.Core.Bool.{Bool, true, false, not, ◌&&◌}
-use mathlib.Core.Logic.{◌⊎◌, ⊎_elim}
 use mathlib.Core.Path.{◌≡◌, refl, ap, sym, ◌∙◌}
 use Prim.Native.Nat.{ℕ, zero, suc, ◌≤◌, ◌<◌}
 use native.Mathlib.Omega.{arith}
@@ -117,7 +116,7 @@ module _ (q : Occurs) (r k : ℕ) (v : Verdict) (g : mark_of v ≡ base_once q k
   base_fails t m n = (once_range q r k m ∙ (rw (← g) (go v t)), sym (ended n v g t))
     where
       go : (v : Verdict) → NotOk v → if_passes (mark_of v) m r ≡ fails r
-      go Ok t = absurd (⊎_elim (λ (e : ◌≡◌ {A = ℕ} 0 1). omega arith) (λ (e : ◌≡◌ {A = ℕ} 0 2). omega arith) t)
+      go Ok t = absurd (t refl)
       go Unknown t = refl
       go (Violation x) t = refl
 

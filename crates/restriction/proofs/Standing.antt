@@ -1,9 +1,7 @@
 -- Where the walk of one element stands, and the pair (1,1), as the code tells them: each variant and each test against the definitions. Assumes nothing.
 use mathlib.Core.Bool.{Bool, true, false}
-use mathlib.Core.Logic.{◌⊎◌, ⊎_elim}
-use mathlib.Core.Path.{◌≡◌, refl, ap, sym, ◌∙◌}
+use mathlib.Core.Path.{◌≡◌, refl, ◌∙◌}
 use Prim.Native.Nat.{ℕ}
-use native.Mathlib.Omega.{arith}
 use lib.Dec.{eqb}
 use borrow.Author.Tests.{eq-eqb, ne_eqb}
 use Rattle.particle.specs.declared.MaxOccurs.TheVariants.{Bounded, Unbounded}
@@ -20,7 +18,7 @@ use Rattle.verdicts.proofs.Marks.{NotOk}
 use Rattle.restriction.specs.declared.marks.Standing.{Standing}
 use Rattle.restriction.specs.declared.marks.Standing.TheVariants.{On, Ended}
 use Rattle.restriction.specs.Views.{is_once}
-use Rattle.restriction.specs.Marks.{Stands, on, ended, standing, walked_on, came_to, settled_at}
+use Rattle.restriction.specs.Marks.{on, ended, standing, walked_on, came_to, settled_at}
 
 -- a walk that goes on
 module _ {w : Standing} (o : w ≡ On) where
@@ -54,7 +52,7 @@ pub own_on : (within : Bool) {once own : Standing} {v : Verdict} → once ≡ En
 own_on within {v = v} e o t = rw (e, o) (go v t)
   where
     go : (v : Verdict) → NotOk v → false ≡ settled_at within (ended (mark_of v)) on
-    go Ok t = absurd (⊎_elim (λ (e : ◌≡◌ {A = ℕ} 0 1). omega arith) (λ (e : ◌≡◌ {A = ℕ} 0 2). omega arith) t)
+    go Ok t = absurd (t refl)
     go Unknown t = refl
     go (Violation r) t = refl
 

@@ -5,7 +5,7 @@ use mathlib.Core.Path.{◌≡◌, refl, ap, sym, ◌∙◌}
 use Prim.Native.Nat.{ℕ, ◌-◌, ◌≤◌, ◌<◌}
 use Rattle.particle.specs.declared.Occurs.{Occurs}
 use Rattle.particle.specs.Occurs.{range_ok}
-use Rattle.particle.specs.Tree.{Items, none, item, Particle, single, tree}
+use Rattle.particle.specs.Tree.{Items, none, Particle, single, tree}
 use Rattle.particle.specs.Rows.{row, later_part}
 use Rattle.particle.specs.Runs.{Run}
 use Rattle.particle.specs.Empty.{emptiable}
