@@ -1,7 +1,6 @@
 -- Tidying keeps document 01's conditions on a tree: a tree that fits still fits when it is tidied, over the same leaves. Assumes nothing.
 use mathlib.Core.Bool.{Bool, true, false}
-use mathlib.Core.Path.{◌≡◌}
-use Prim.Native.Nat.{ℕ, suc, ◌+◌, ◌≤◌, max}
+use Prim.Native.Nat.{ℕ, suc, ◌+◌, ◌≤◌}
 use native.Mathlib.Nat.{le_trans}
 use native.Mathlib.Omega.{arith}
 use Rattle.particle.specs.declared.MaxOccurs.{MaxOccurs}

@@ -13,7 +13,7 @@ use Rattle.particle.specs.Empty.{emptiable}
 use Rattle.particle.proofs.ItemEncodes.{length_encode}
 use Rattle.totals.specs.Exact.{exact_total}
 use Rattle.totals.specs.Total.{total}
-use Rattle.language.specs.Language.{Names, Allows}
+use Rattle.language.specs.Language.{Allows}
 use Rattle.language.specs.Premises.{BelowRoot, Throughout, NoZeroMaximum, Ordered}
 use Rattle.tidying.specs.Tidy.{tidy}
 use Rattle.tidying.specs.Depth.{depth_of}
