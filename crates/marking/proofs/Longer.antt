@@ -5,8 +5,7 @@ use Prim.Native.Nat.{ℕ, ◌<◌}
 use lib.ListN.{length}
 use Rattle.particle.specs.Record.{max_records}
 use Rattle.intake.specs.Limits.{max_leaves}
-use Rattle.rules.specs.Verdicts.{Mark}
-use Rattle.entries.specs.Answer.{Answer, refused}
+use Rattle.entries.specs.Answer.{refused}
 use Rattle.sheet.specs.declared.SheetChecked.{SheetChecked}
 use Rattle.sheet.specs.Layout.{total_of}
 use Rattle.sheet.proofs.Length.{longer_refused}
