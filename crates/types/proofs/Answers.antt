@@ -7,7 +7,7 @@ use Prim.Native.Nat.{ℕ}
 use lib.Dec.{leb}
 use Rattle.intake.specs.declared.Refusal.TheVariants.{TypeNumber, TypeTable}
 use Rattle.intake.specs.Number.{refusal_number}
-use Rattle.entries.specs.Answer.{Answer, gives, refused}
+use Rattle.entries.specs.Answer.{gives, refused}
 use Rattle.sheet.proofs.Tests.{test_failed, test_passed}
 use Rattle.types.specs.Derives.{any_simple_type, has_type, derives, not_derived, type_verdict}
 use Rattle.types.specs.Table.{table_ok}
