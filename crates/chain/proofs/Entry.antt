@@ -7,7 +7,7 @@ use Prim.Native.Nat.{ℕ, ◌+◌, ◌*◌, ◌-◌, ◌^◌, ◌%◌, ◌≤◌
 use native.Mathlib.Omega.{arith}
 use lib.Dec.{ltb}
 use lib.ListN.{length, take, drop}
-use lib.Seq.{take-length, length-take-le}
+use lib.Seq.{length-take-le}
 use borrow.Author.Tests.{lt-ltb, le-ltb, not-true, not-false}
 use borrow.Rule.Slice.Know.{Fit}
 use borrow.Table.Referent.{f_int}
@@ -96,10 +96,12 @@ module _ (t : List ℕ) {k : ℕ} (e : k ≡ length (records t)) (n : ℕ) where
         pub too_short : (out : List ℕ) → length out < end → Joining n t out out (j.Refused Buffer)
         too_short out l = record { answer = λ x a. short x (length out) (within_limits a) (rw (end_is a) at l); buffer = λ x a. refl }
 
-        pub written : (out : List ℕ) → end ≤ length out → {after : List ℕ} → after ≡ take (length (take end work)) (take end work) ++ drop (length (take end work)) out → Joining n t out after (j.Records (n + k))
-        written out l c = record {
+        pub written : (out : List ℕ) → end ≤ length out → {s : List ℕ} → s ≡ take end work → Joining n t out (s ++ drop end out) (j.Records (n + k))
+        written out l {s} c = record {
           answer = λ x a. given x (length out) (within_limits a) (rw (end_is a) at l) (size_is a);
-          buffer = λ x a. c ∙ rw (w.holds ∙ sym a.bytes, take-length (encode (single x)));
+          buffer = λ x a.
+              let e : end ≡ length (encode (single x)) = omega (arith, end_is a, length_encode (single x)) in
+              ap (λ (y : List ℕ). y ++ drop end out) (c ∙ (w.holds ∙ sym a.bytes)) ∙ ap (λ (m : ℕ). encode (single x) ++ drop m out) e;
         }
 
 -- `effective_particle` ---------------------------------------------------------------------

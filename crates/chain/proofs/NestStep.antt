@@ -68,7 +68,7 @@ module _ {n size : ℕ} {out : List ℕ} {at i : ℕ} (v : Nesting n size out at
   pub trees_fit : length t ≤ length (mid_of at (at + length t - at) out)
   trees_fit = omega (arith, part_length out at (length t) room_left)
 
-  pub nest_done : {s : List ℕ} → s ≡ take (length t) t ++ drop (length t) (mid_of at (at + length t - at) out) → Nests n t (put_mid at (at + length t - at) out s) (at + length t)
+  pub nest_done : {s : List ℕ} → s ≡ t → Nests n t (put_mid at (at + length t - at) out s) (at + length t)
   nest_done {s} k =
       let before : take at out ≡ nested n [] = v.holds ∙ ap (λ (j : ℕ). nested j []) (omega (arith, v.within)) in
       let holds : take (at + length t) (put_mid at (at + length t - at) out s) ≡ nested n t = copied out at (length t) room_left t refl k ∙ rw before (nested_append n [] t) in
