@@ -3,69 +3,56 @@
 #![tactic(auto)]
 
 use entries::{EmptiableAnswer, TotalAnswer};
-use libc::STDOUT_FILENO;
+use std::io;
+use streams::ROOM;
 use totals::{TotalMax, TotalMin, TotalRange};
 
-fn print_min(m: TotalMin) {
+fn print_min(out: &impl Print, m: TotalMin) -> io::Result<()> {
     match m {
-        TotalMin::Exact(n) => {
-            io::print_decimal(STDOUT_FILENO, n as u64);
-        }
-        TotalMin::TooLarge => {
-            io::write_all(STDOUT_FILENO, b"too large");
-        }
+        TotalMin::Exact(n) => print!(out; "{n}"),
+        TotalMin::TooLarge => print!(out; "too large"),
     }
 }
 
-fn print_max(m: TotalMax) {
+fn print_max(out: &impl Print, m: TotalMax) -> io::Result<()> {
     match m {
-        TotalMax::Bounded(n) => {
-            io::print_decimal(STDOUT_FILENO, n as u64);
-        }
-        TotalMax::TooLarge => {
-            io::write_all(STDOUT_FILENO, b"too large");
-        }
-        TotalMax::Unbounded => {
-            io::write_all(STDOUT_FILENO, b"unbounded");
-        }
+        TotalMax::Bounded(n) => print!(out; "{n}"),
+        TotalMax::TooLarge => print!(out; "too large"),
+        TotalMax::Unbounded => print!(out; "unbounded"),
     }
 }
 
-fn print_total(t: TotalRange) {
+fn print_total(out: &impl Print, t: TotalRange) -> io::Result<()> {
     let min = t.min;
     let max = t.max;
-    io::write_all(STDOUT_FILENO, b"total ");
-    print_min(min);
-    io::write_all(STDOUT_FILENO, b", ");
-    print_max(max);
-    io::write_all(STDOUT_FILENO, b"\n");
+    print!(out; "total ")?;
+    print_min(out, min)?;
+    print!(out; ", ")?;
+    print_max(out, max)?;
+    println!(out)
 }
 
-fn print_emptiable(t: &[u8]) {
+fn print_emptiable(out: &impl Print, t: &[u8]) -> io::Result<()> {
     match entries::emptiable(t) {
-        EmptiableAnswer::Yes => {
-            io::write_all(STDOUT_FILENO, b"emptiable yes\n");
-        }
-        EmptiableAnswer::No => {
-            io::write_all(STDOUT_FILENO, b"emptiable no\n");
-        }
-        EmptiableAnswer::Refused(_) => {}
+        EmptiableAnswer::Yes => println!(out; "emptiable yes"),
+        EmptiableAnswer::No => println!(out; "emptiable no"),
+        EmptiableAnswer::Refused(_) => Ok(()),
     }
 }
 
-fn describe(t: &[u8]) {
+fn describe(out: &impl Print, t: &[u8]) -> io::Result<()> {
     match entries::total_range(t) {
-        TotalAnswer::Refused(r) => streams::print_refused(STDOUT_FILENO, r),
+        TotalAnswer::Refused(r) => streams::print_refused(out, r),
         TotalAnswer::Total(o) => {
-            print_total(o);
-            print_emptiable(t);
+            print_total(out, o)?;
+            print_emptiable(out, t)
         }
     }
 }
 
 // Input past the longest tree fills the buffer beyond that limit, and is refused.
-fn main() {
-    let mut buf = io::large_buffer();
-    let n = io::read_full(0, &mut buf);
-    describe(&buf[..n]);
+fn main(rt: HostRuntime) -> io::Result<()> {
+    let mut buf = [0u8; ROOM];
+    let n = streams::read_full(&mut rt.stdin(), &mut buf)?;
+    describe(&rt, &buf[..n])
 }

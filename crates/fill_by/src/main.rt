@@ -3,26 +3,38 @@
 // Standard output is the sheet with its second table filled in. Where it is refused, a line on standard error says why: `refused N`.
 #![tactic(auto)]
 
-use libc::{STDERR_FILENO, STDIN_FILENO, STDOUT_FILENO};
+use std::io;
+use streams::ROOM;
 use types::FilledAnswer;
 
-fn print_filled(sheet: &mut [u8], numbers: &[u8], parents: &[u8]) {
+fn print_filled(
+    out: &impl Print,
+    err: &impl Print,
+    sheet: &mut [u8],
+    numbers: &[u8],
+    parents: &[u8],
+) -> io::Result<()> {
     match types::fill_types_by(sheet, numbers, parents) {
-        FilledAnswer::Filled => {
-            io::write_all(STDOUT_FILENO, sheet);
-        }
-        FilledAnswer::Refused(r) => streams::print_refused(STDERR_FILENO, r),
+        FilledAnswer::Filled => out.write_all(sheet),
+        FilledAnswer::Refused(r) => streams::print_refused(err, r),
     }
 }
 
 // Input that ends within the table has zeros in place of the rest, and no sheet: where the table is accepted so, the sheet is refused as
 // an empty one. Input past the longest sheet fills the buffer beyond that limit, and is refused.
-fn main() {
-    let mut parents = io::large_buffer();
-    let rows = streams::counted(&mut parents);
-    let mut numbers = io::large_buffer();
-    let k = streams::counted(&mut numbers);
-    let mut sheet = io::large_buffer();
-    let n = io::read_full(STDIN_FILENO, &mut sheet);
-    print_filled(&mut sheet[..n], &numbers[..k], &parents[..rows]);
+fn main(rt: HostRuntime) -> io::Result<()> {
+    let mut input = rt.stdin();
+    let mut parents = [0u8; ROOM];
+    let rows = streams::counted(&mut input, &mut parents)?;
+    let mut numbers = [0u8; ROOM];
+    let k = streams::counted(&mut input, &mut numbers)?;
+    let mut sheet = [0u8; ROOM];
+    let n = streams::read_full(&mut input, &mut sheet)?;
+    print_filled(
+        &rt,
+        &rt.stderr(),
+        &mut sheet[..n],
+        &numbers[..k],
+        &parents[..rows],
+    )
 }

@@ -3,37 +3,41 @@
 #![tactic(auto)]
 
 use entries::EmptiableAnswer;
-use libc::{STDERR_FILENO, STDIN_FILENO, STDOUT_FILENO};
+use std::io;
+use streams::ROOM;
 
 // The bytes of the item's number.
 const NUMBER: usize = 2;
 
 // Why t has no such item. The entries for one tree refuse alike, so another one tells the refusal.
-fn print_why(t: &[u8]) {
+fn print_why(to: &impl Print, t: &[u8]) -> io::Result<()> {
     match entries::emptiable(t) {
-        EmptiableAnswer::Refused(r) => streams::print_refused(STDERR_FILENO, r),
-        _ => {
-            io::write_all(STDERR_FILENO, b"no item\n");
-        }
+        EmptiableAnswer::Refused(r) => streams::print_refused(to, r),
+        _ => println!(to; "no item"),
     }
 }
 
 // An item has at least one record, so nothing but a missing one is empty.
-fn print_item(t: &[u8], k: usize) {
+fn print_item(out: &impl Print, err: &impl Print, t: &[u8], k: usize) -> io::Result<()> {
     let part = entries::item(t, k);
-    if part.len() == 0 {
-        print_why(t);
-        return;
+    if part.is_empty() {
+        return print_why(err, t);
     }
-    io::write_all(STDOUT_FILENO, part);
+    out.write_all(part)
 }
 
 // Input that ends within the number leaves nothing for the tree, which is refused as an empty one. Input past the longest tree fills the
 // buffer beyond that limit, and is refused.
-fn main() {
+fn main(rt: HostRuntime) -> io::Result<()> {
+    let mut input = rt.stdin();
     let mut head = [0u8; NUMBER];
-    io::read_full(STDIN_FILENO, &mut head);
-    let mut buf = io::large_buffer();
-    let n = io::read_full(STDIN_FILENO, &mut buf);
-    print_item(&buf[..n], streams::number_at(&head, 0));
+    streams::read_full(&mut input, &mut head)?;
+    let mut buf = [0u8; ROOM];
+    let n = streams::read_full(&mut input, &mut buf)?;
+    print_item(
+        &rt,
+        &rt.stderr(),
+        &buf[..n],
+        streams::number_at(&head, 0),
+    )
 }

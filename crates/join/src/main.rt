@@ -3,18 +3,17 @@
 #![tactic(auto)]
 
 use chain::JoinedAnswer;
-use libc::{STDERR_FILENO, STDIN_FILENO};
+use std::io;
+use streams::ROOM;
 
 // Both buffers are longer than any chain that is joined, and than any tree; longer input is cut off there, and refused.
-fn main() {
-    let mut buf = io::large_buffer();
-    let n = io::read_full(STDIN_FILENO, &mut buf);
-    let mut out = io::large_buffer();
+fn main(rt: HostRuntime) -> io::Result<()> {
+    let mut buf = [0u8; ROOM];
+    let n = streams::read_full(&mut rt.stdin(), &mut buf)?;
+    let mut out = [0u8; ROOM];
     match chain::effective_particle(&buf[..n], &mut out) {
-        JoinedAnswer::Records(k) => streams::print_tree(&out, k),
-        JoinedAnswer::NoContent => {
-            io::write_all(STDERR_FILENO, b"no content\n");
-        }
-        JoinedAnswer::Refused(r) => streams::print_refused(STDERR_FILENO, r),
+        JoinedAnswer::Records(k) => streams::print_tree(&rt, &out, k),
+        JoinedAnswer::NoContent => eprintln!(rt; "no content"),
+        JoinedAnswer::Refused(r) => streams::print_refused(&rt.stderr(), r),
     }
 }

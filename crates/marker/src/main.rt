@@ -4,18 +4,18 @@
 #![tactic(auto)]
 
 ghost use Rattle.std.specs.Prelude.{◌≡◌, true, take};
-ghost use Rattle.io.specs.Counts.{IsPrefixLen};
 ghost use Rattle.marking.specs.Answer.{mark_meaning, mark_sheet};
 ghost use Rattle.marker.specs.Many.{many};
+ghost use Rattle.streams.specs.Counts.{IsPrefixLen};
 
-use libc::{STDERR_FILENO, STDIN_FILENO, STDOUT_FILENO};
 use marking::MarkAnswer;
+use std::env::{Env, FillError};
+use std::io;
+use std::io::Read;
+use streams::ROOM;
 
 // The bytes of a sheet's length.
 const LENGTH: usize = 2;
-
-// One more than the greatest length.
-const ROOM: usize = 65536;
 
 // The bytes of `--many`.
 const WORD: usize = 6;
@@ -36,30 +36,24 @@ enum Outcome {
     Ended,
 }
 
-fn print_fails(n: u32) {
-    io::write_all(STDOUT_FILENO, b"fails ");
-    io::print_decimal(STDOUT_FILENO, n as u64);
-    io::write_all(STDOUT_FILENO, b"\n");
+fn print_fails(out: &impl Print, n: u32) -> io::Result<()> {
+    println!(out; "fails {n}")
 }
 
-fn print_mark(m: MarkAnswer) {
+fn print_mark(out: &impl Print, m: MarkAnswer) -> io::Result<()> {
     match m {
-        MarkAnswer::Passes => {
-            io::write_all(STDOUT_FILENO, b"passes\n");
-        }
-        MarkAnswer::Undecided => {
-            io::write_all(STDOUT_FILENO, b"undecided\n");
-        }
-        MarkAnswer::Fails(r) => print_fails(verdicts::reason_number(r)),
-        MarkAnswer::Refused(r) => streams::print_refused(STDOUT_FILENO, r),
+        MarkAnswer::Passes => println!(out; "passes"),
+        MarkAnswer::Undecided => println!(out; "undecided"),
+        MarkAnswer::Fails(r) => print_fails(out, verdicts::reason_number(r)),
+        MarkAnswer::Refused(r) => streams::print_refused(out, r),
     }
 }
 
 // Input past the longest sheet fills the buffer beyond that length, and is refused.
-fn mark_one() {
-    let mut buf = io::large_buffer();
-    let n = io::read_full(STDIN_FILENO, &mut buf);
-    print_mark(marking::mark(&buf[..n]));
+fn mark_one(input: &mut impl Read, out: &impl Print) -> io::Result<()> {
+    let mut buf = [0u8; ROOM];
+    let n = streams::read_full(input, &mut buf)?;
+    print_mark(out, marking::mark(&buf[..n]))
 }
 
 // The mark of the first n bytes of buf, whatever an earlier sheet left after them.
@@ -71,78 +65,78 @@ fn mark_first(buf: &[u8], n: usize) -> MarkAnswer
 }
 
 // Reads the next sheet and prints its line.
-fn mark_next(buf: &mut [u8; ROOM]) -> Outcome {
+fn mark_next(
+    input: &mut impl Read,
+    out: &impl Print,
+    buf: &mut [u8; ROOM],
+) -> io::Result<Outcome> {
     let mut head = [0u8; LENGTH];
-    let got = io::read_full(STDIN_FILENO, &mut head);
+    let got = streams::read_full(input, &mut head)?;
     if got == 0 {
-        return Outcome::Ended;
+        return Ok(Outcome::Ended);
     }
     if got < LENGTH {
-        return Outcome::CutOff;
+        return Ok(Outcome::CutOff);
     }
     let n = streams::number_at(&head, 0);
-    if !streams::filled(buf, n) {
-        return Outcome::CutOff;
+    if !streams::filled(input, buf, n)? {
+        return Ok(Outcome::CutOff);
     }
-    print_mark(mark_first(buf, n));
-    Outcome::Marked
+    print_mark(out, mark_first(buf, n))?;
+    Ok(Outcome::Marked)
 }
 
 // A proved loop has to end, and nothing says that the input does: so the sheets are numbered up to a number that no input reaches.
-fn mark_many() {
-    let mut buf = io::large_buffer();
+fn mark_many(input: &mut impl Read, out: &impl Print, err: &impl Print) -> io::Result<()> {
+    let mut buf = [0u8; ROOM];
     for _ in 1..u64::MAX {
-        match mark_next(&mut buf) {
+        match mark_next(input, out, &mut buf)? {
             Outcome::Marked => {}
             Outcome::CutOff => {
-                io::write_all(STDERR_FILENO, b"marker: the input is cut off\n");
-                return;
+                return println!(err; "marker: the input is cut off");
             }
             Outcome::Ended => {
-                return;
+                return Ok(());
             }
         }
     }
+    Ok(())
 }
 
 // Whether the word is `--many`, and no more than that.
 fn is_many(word: &[u8]) -> bool
     ensures { (result ≡ true → word.now ≡ many) × (word.now ≡ many → result ≡ true) }
 {
-    check::same(word, b"--many")
+    word == b"--many".as_slice()
 }
 
 // An argument that is longer than `--many` counts as an empty one here, which is not it either.
-fn asked() -> Task {
-    let given = os::arg_count();
-    if given < 2 {
-        return Task::One;
-    }
+fn asked(env: &impl Env) -> Task {
     let mut word = [0u8; WORD];
-    let n = os::arg(1, &mut word);
-    if given == 2 {
-        if is_many(&word[..n]) {
+    let n = match env.arg(1, &mut word) {
+        Ok(n) => n,
+        Err(FillError::TooLong) => 0,
+        Err(FillError::NotPresent) => {
+            return Task::One;
+        }
+    };
+    if is_many(&word[..n]) {
+        if let Err(FillError::NotPresent) = env.arg(2, &mut word) {
             return Task::Many;
         }
     }
     Task::Usage
 }
 
-fn print_usage() {
-    io::write_all(
-        STDERR_FILENO,
-        b"marker reads one sheet from standard input: marker < SHEET\n",
-    );
-    io::write_all(
-        STDERR_FILENO,
-        b"marker --many reads many sheets, each after its length in two bytes, low byte first\n",
-    );
+fn print_usage(err: &impl Print) -> io::Result<()> {
+    println!(err; "marker reads one sheet from standard input: marker < SHEET")?;
+    println!(err; "marker --many reads many sheets, each after its length in two bytes, low byte first")
 }
 
-fn main() {
-    match asked() {
-        Task::One => mark_one(),
-        Task::Many => mark_many(),
-        Task::Usage => print_usage(),
+fn main(rt: HostRuntime) -> io::Result<()> {
+    match asked(&rt) {
+        Task::One => mark_one(&mut rt.stdin(), &rt),
+        Task::Many => mark_many(&mut rt.stdin(), &rt, &rt.stderr()),
+        Task::Usage => print_usage(&rt.stderr()),
     }
 }

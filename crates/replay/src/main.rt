@@ -25,13 +25,12 @@ ghost use Rattle.types.specs.Answer.{fill_answer, filled_sheet};
 ghost use Rattle.exports.specs.Numbers.{filled_number};
 ghost use Rattle.replay.specs.Expected.{number_of, buffer_of, Agrees};
 
-use libc::{STDIN_FILENO, STDOUT_FILENO};
+use std::io;
+use std::io::Read;
+use streams::ROOM;
 
 // The length of a case's head in bytes.
 const HEAD: usize = 15;
-
-// One more than the greatest length that a head can give.
-const ROOM: usize = 65536;
 
 // A line is printed for so many differences.
 const SHOWN: u64 = 10;
@@ -132,7 +131,7 @@ fn judge(op: Operation, input: &[u8], lent: &mut [u8], stored: u64, after: &[u8]
 {
     let got = answer(op, input, lent);
     if got == stored {
-        if check::same(lent, after) {
+        if *lent == *after {
             return Outcome::Agreed;
         }
     }
@@ -144,104 +143,98 @@ fn judge(op: Operation, input: &[u8], lent: &mut [u8], stored: u64, after: &[u8]
 
 // Reads what comes after the head, and replays the case.
 fn replay_body(
+    cases: &mut impl Read,
     op: Operation,
     head: &[u8; HEAD],
     input: &mut [u8],
     lent: &mut [u8],
     after: &mut [u8],
-) -> Outcome
+) -> io::Result<Outcome>
     requires value { 65536 ≡ length input.old }
     requires value_2 { 65536 ≡ length lent.old }
     requires value_3 { 65536 ≡ length after.old }
 {
     let n = streams::number_at(head, 3);
     let room = streams::number_at(head, 5);
-    if !streams::filled(input, n) {
-        return Outcome::CutOff;
+    if !streams::filled(cases, input, n)? {
+        return Ok(Outcome::CutOff);
     }
-    if !streams::filled(lent, room) {
-        return Outcome::CutOff;
+    if !streams::filled(cases, lent, room)? {
+        return Ok(Outcome::CutOff);
     }
-    if !streams::filled(after, room) {
-        return Outcome::CutOff;
+    if !streams::filled(cases, after, room)? {
+        return Ok(Outcome::CutOff);
     }
-    judge(
+    Ok(judge(
         op,
         &input[..n],
         &mut lent[..room],
         stored_answer(head),
         &after[..room],
-    )
+    ))
 }
 
 // Replays the next case.
-fn replay_next(input: &mut [u8; ROOM], lent: &mut [u8; ROOM], after: &mut [u8; ROOM]) -> Outcome {
+fn replay_next(
+    cases: &mut impl Read,
+    input: &mut [u8; ROOM],
+    lent: &mut [u8; ROOM],
+    after: &mut [u8; ROOM],
+) -> io::Result<Outcome> {
     let mut head = [0u8; HEAD];
-    let got = io::read_full(STDIN_FILENO, &mut head);
+    let got = streams::read_full(cases, &mut head)?;
     if got == 0 {
-        return Outcome::Ended;
+        return Ok(Outcome::Ended);
     }
     if got < HEAD {
-        return Outcome::CutOff;
+        return Ok(Outcome::CutOff);
     }
     match asked_for(head[0], streams::number_at(&head, 1), head[1], head[2]) {
-        Asked::Nothing => Outcome::Unknown,
-        Asked::For(op) => replay_body(op, &head, input, lent, after),
+        Asked::Nothing => Ok(Outcome::Unknown),
+        Asked::For(op) => replay_body(cases, op, &head, input, lent, after),
     }
 }
 
-fn print_difference(case: u64, expected: u64, got: u64) {
-    io::write_all(STDOUT_FILENO, b"case ");
-    io::print_decimal(STDOUT_FILENO, case);
+fn print_difference(out: &impl Print, case: u64, expected: u64, got: u64) -> io::Result<()> {
     if expected == got {
-        io::write_all(STDOUT_FILENO, b": another buffer after the call\n");
-        return;
+        return println!(out; "case {case}: another buffer after the call");
     }
-    io::write_all(STDOUT_FILENO, b": expected ");
-    io::print_decimal(STDOUT_FILENO, expected);
-    io::write_all(STDOUT_FILENO, b", got ");
-    io::print_decimal(STDOUT_FILENO, got);
-    io::write_all(STDOUT_FILENO, b"\n");
+    println!(out; "case {case}: expected {expected}, got {got}")
 }
 
-fn print_counts(agreed: u64, differ: u64, end: &[u8]) {
-    io::print_decimal(STDOUT_FILENO, agreed);
-    io::write_all(STDOUT_FILENO, b" agreed, ");
-    io::print_decimal(STDOUT_FILENO, differ);
-    io::write_all(STDOUT_FILENO, b" differ");
-    io::write_all(STDOUT_FILENO, end);
+fn print_counts(out: &impl Print, agreed: u64, differ: u64, end: &str) -> io::Result<()> {
+    println!(out; "{agreed} agreed, {differ} differ{end}")
 }
 
 // A proved loop has to end, and nothing says that the input does: so the cases are numbered up to a number that no input reaches.
-fn main() {
+fn main(rt: HostRuntime) -> io::Result<()> {
+    let mut cases = rt.stdin();
     let mut input = [0u8; ROOM];
     let mut lent = [0u8; ROOM];
     let mut after = [0u8; ROOM];
     let mut agreed: u64 = 0;
     let mut differ: u64 = 0;
     for case in 1..u64::MAX {
-        match replay_next(&mut input, &mut lent, &mut after) {
+        match replay_next(&mut cases, &mut input, &mut lent, &mut after)? {
             Outcome::Agreed => {
                 agreed += 1;
             }
             Outcome::Differs { expected, got } => {
                 differ += 1;
                 if differ <= SHOWN {
-                    print_difference(case, expected, got);
+                    print_difference(&rt, case, expected, got)?;
                 }
             }
             Outcome::Unknown => {
-                print_counts(agreed, differ, b", then an unknown operation\n");
-                return;
+                return print_counts(&rt, agreed, differ, ", then an unknown operation");
             }
             Outcome::CutOff => {
-                print_counts(agreed, differ, b", then the input is cut off\n");
-                return;
+                return print_counts(&rt, agreed, differ, ", then the input is cut off");
             }
             Outcome::Ended => {
                 break;
             }
         }
     }
-    print_counts(agreed, differ, b"\n");
+    print_counts(&rt, agreed, differ, "")
 }

@@ -3,15 +3,16 @@
 #![tactic(auto)]
 
 use entries::TidiedAnswer;
-use libc::{STDERR_FILENO, STDIN_FILENO};
+use std::io;
+use streams::ROOM;
 
 // Both buffers are longer than any tree, and equally long; longer input is cut off there, and refused.
-fn main() {
-    let mut buf = io::large_buffer();
-    let n = io::read_full(STDIN_FILENO, &mut buf);
-    let mut out = io::large_buffer();
+fn main(rt: HostRuntime) -> io::Result<()> {
+    let mut buf = [0u8; ROOM];
+    let n = streams::read_full(&mut rt.stdin(), &mut buf)?;
+    let mut out = [0u8; ROOM];
     match entries::tidy(&buf[..n], &mut out) {
-        TidiedAnswer::Records(k) => streams::print_tree(&out, k),
-        TidiedAnswer::Refused(r) => streams::print_refused(STDERR_FILENO, r),
+        TidiedAnswer::Records(k) => streams::print_tree(&rt, &out, k),
+        TidiedAnswer::Refused(r) => streams::print_refused(&rt.stderr(), r),
     }
 }
