@@ -1,0 +1,6 @@
+-- `replay::main` is safe. Fewer cases agreed than the next one's number, and fewer differed. Assumes nothing.
+use Rattle.std.proofs.Common.{◌<◌}
+use Rattle.replay.proofs.main.Given as goal
+
+abbrev pub invariant-loop-case : goal.invariant-loop-case
+invariant-loop-case l = (l.agreed < l.case) × (l.differ < l.case)
