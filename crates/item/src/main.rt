@@ -34,10 +34,5 @@ fn main(rt: HostRuntime) -> io::Result<()> {
     streams::read_full(&mut input, &mut head)?;
     let mut buf = [0u8; ROOM];
     let n = streams::read_full(&mut input, &mut buf)?;
-    print_item(
-        &rt,
-        &rt.stderr(),
-        &buf[..n],
-        streams::number_at(&head, 0),
-    )
+    print_item(&rt, &rt.stderr(), &buf[..n], streams::number_at(&head, 0))
 }

@@ -65,11 +65,7 @@ fn mark_first(buf: &[u8], n: usize) -> MarkAnswer
 }
 
 // Reads the next sheet and prints its line.
-fn mark_next(
-    input: &mut impl Read,
-    out: &impl Print,
-    buf: &mut [u8; ROOM],
-) -> io::Result<Outcome> {
+fn mark_next(input: &mut impl Read, out: &impl Print, buf: &mut [u8; ROOM]) -> io::Result<Outcome> {
     let mut head = [0u8; LENGTH];
     let got = streams::read_full(input, &mut head)?;
     if got == 0 {
@@ -130,7 +126,9 @@ fn asked(env: &impl Env) -> Task {
 
 fn print_usage(err: &impl Print) -> io::Result<()> {
     println!(err; "marker reads one sheet from standard input: marker < SHEET")?;
-    println!(err; "marker --many reads many sheets, each after its length in two bytes, low byte first")
+    println!(err;
+        "marker --many reads many sheets, each after its length in two bytes, low byte first"
+    )
 }
 
 fn main(rt: HostRuntime) -> io::Result<()> {
