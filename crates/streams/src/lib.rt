@@ -2,7 +2,7 @@
 // line, a tree.
 #![tactic(auto)]
 
-ghost use Rattle.std.specs.Prelude.{◌≡◌, ◌+◌, ◌≤◌, ◌<◌, length, IfOk};
+ghost use Rattle.std.specs.Prelude.{◌≡◌, ◌+◌, ◌≤◌, ◌<◌, length, IfOk, OnErr};
 ghost use Rattle.particle.specs.Record.{half};
 ghost use Rattle.streams.specs.Counts.{IsPrefixLen};
 
@@ -24,9 +24,11 @@ pub fn number_at(s: &[u8], at: usize) -> usize
     particle::read_u16(s, at) as usize
 }
 
-// Reads until buf is full or the input ends, and returns how many bytes it put at the start of buf.
+// Reads until buf is full or the input ends, and returns how many bytes it put at the start of buf. It fails only where a read does, and
+// the bytes that came before stand at the start of buf.
 pub fn read_full(input: &mut impl Read, buf: &mut [u8]) -> io::Result<usize>
-    ensures { IfOk result (λ k. IsPrefixLen k buf.new) }
+    ensures ok { IfOk result (λ k. IsPrefixLen k buf.new) }
+    ensures err { OnErr result (length buf.new ≡ length buf.old) }
 {
     let mut done = 0;
     while done < buf.len() {
@@ -39,7 +41,7 @@ pub fn read_full(input: &mut impl Read, buf: &mut [u8]) -> io::Result<usize>
     Ok(done)
 }
 
-// Reads n bytes from the input to the start of buf; false where the input ends before.
+// Reads n bytes from the input to the start of buf; false where the input ends before. It fails only where a read does.
 pub fn filled(input: &mut impl Read, buf: &mut [u8], n: usize) -> io::Result<bool>
     requires { n ≤ length buf.old }
     ensures { IsPrefixLen n buf.new }
@@ -51,10 +53,11 @@ pub fn filled(input: &mut impl Read, buf: &mut [u8], n: usize) -> io::Result<boo
 const COUNT: usize = 2;
 
 // Reads a number of two bytes from the input, and then so many bytes to the start of buf. Input that ends before leaves the rest of them as
-// they were.
+// they were. It fails only where a read does.
 pub fn counted(input: &mut impl Read, buf: &mut [u8]) -> io::Result<usize>
     requires { 65536 ≤ length buf.old }
-    ensures { IfOk result (λ k. IsPrefixLen k buf.new) }
+    ensures ok { IfOk result (λ k. IsPrefixLen k buf.new) }
+    ensures err { OnErr result (length buf.new ≡ length buf.old) }
 {
     let mut head = [0u8; COUNT];
     read_full(input, &mut head)?;
