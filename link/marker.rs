@@ -1,5 +1,5 @@
 //! The marker for Rust: safe functions over the C functions of `libexports.a`,
-//! which `rt staticlib exports` writes. Take this file into a crate as a module
+//! which link/build writes. Take this file into a crate as a module
 //! (`mod marker;`), a `no_std` crate too: it uses `core` alone. words.rs must
 //! stand beside it. link/README.md has an example with its command.
 //!

@@ -29,21 +29,21 @@ class Program(NamedTuple):
 
     def path(self):
         """Where the variable says; or beside the tools, in a folder that
-        `tools/pack` made; or where `rt check` puts it."""
+        `tools/pack` made; or where `tools/build` has it."""
         named = os.environ.get(self.variable)
         return Path(named) if named else PACKED / self.name if PACKED.is_dir() else self.built
 
     @property
     def built(self):
-        """Where `rt check` puts it."""
-        return ROOT / "target" / "bin" / self.name
+        """Where `tools/build` has it."""
+        return ROOT / "crates" / self.name / "out" / self.name
 
     def run(self, data, *words):
         """What it does with the data; raises NoAnswer where it can't be run."""
         path = self.path()
         if not path.is_file():
             cure = ("this folder is not whole, pack it anew" if PACKED.is_dir() else
-                    f"run `rt check {self.name}` in the repository's root")
+                    f"run `tools/build {self.name}` in the repository's root")
             raise NoAnswer(f"{self.called} {path} is missing: {cure}, or set {self.variable} to "
                            "the program's path")
         try:

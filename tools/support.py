@@ -26,7 +26,7 @@ def needs(program):
     """Skips a test where the program is missing, and says so."""
     if not program.path().is_file():
         print(f"{program.path()} is missing: the tests that need {program.called} are skipped "
-              f"(rt check {program.name} builds it, {program.variable} names another)",
+              f"(tools/build {program.name} makes it, {program.variable} names another)",
               file=sys.stderr)
     return unittest.skipUnless(program.path().is_file(), f"{program.called} is missing")
 

@@ -268,7 +268,7 @@ class Joining(Command):
         missing = self.folder / "missing"
         for use in ("join", "mark", "write"):
             done = run(use, data=self.PAPER.encode(), joiner=missing)
-            self.check(done, 2, b"", "missing: run `rt check join`")
+            self.check(done, 2, b"", "missing: run `tools/build join`")
 
     def test_a_paper_without_a_chain_needs_no_program(self):
         done = run("write", data=b"a | b", joiner=self.folder / "missing")

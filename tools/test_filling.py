@@ -132,7 +132,7 @@ class Uses(Command):
         missing = self.folder / "missing"
         for use in ("mark", "why", "write"):
             done = run(use, data=self.TEXT.encode(), filler=missing)
-            self.check(done, 2, b"", "missing: run `rt check fill`")
+            self.check(done, 2, b"", "missing: run `tools/build fill`")
 
     def test_a_paper_without_types_needs_no_program(self):
         done = run("write", data=FIRST_OK.encode(), filler=self.folder / "missing")

@@ -242,7 +242,7 @@ class Packing(Command):
         return subprocess.run([ROOT / "tools" / "pack", *map(str, words)], capture_output=True,
                               env={"PATH": path}, check=False)
 
-    # What is packed is what `rt check` built, whatever the variables name.
+    # What is packed is what `tools/build` built, whatever the variables name.
     @unittest.skipUnless(all(program.built.is_file() for program in PROGRAMS),
                          "a program is missing")
     def test_a_folder_that_marks(self):

@@ -138,7 +138,7 @@ class Writing(Command):
 
 
 class Reading(Command):
-    MISSING = "run `rt check marker`"
+    MISSING = "run `tools/build marker`"
 
     def test_without_the_marking_program(self):
         missing = self.folder / "missing"

@@ -245,7 +245,7 @@ class Uses(Command):
 
     def test_no_answer(self):
         missing = self.folder / "missing"
-        self.check(self.steps("S[a]", tidier=missing), 2, b"", "run `rt check tidy`")
+        self.check(self.steps("S[a]", tidier=missing), 2, b"", "run `tools/build tidy`")
 
 
 if __name__ == "__main__":

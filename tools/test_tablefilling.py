@@ -155,7 +155,7 @@ class Uses(Command):
     def test_without_the_program(self):
         missing = self.folder / "missing"
         done = run("write", data=self.TEXT.encode(), table_filler=missing)
-        self.check(done, 2, b"", "missing: run `rt check fill_by`")
+        self.check(done, 2, b"", "missing: run `tools/build fill_by`")
 
     def test_what_needs_no_program(self):
         """Rows without types, and what asks for trees only."""

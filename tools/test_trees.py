@@ -130,8 +130,8 @@ class Uses(Command):
 
     def test_no_answer(self):
         missing = self.folder / "missing"
-        self.check(run("tidy", data=b"a", tidier=missing), 2, b"", "run `rt check tidy`")
-        self.check(run("item", 0, data=b"a", items=missing), 2, b"", "run `rt check item`")
+        self.check(run("tidy", data=b"a", tidier=missing), 2, b"", "run `tools/build tidy`")
+        self.check(run("item", 0, data=b"a", items=missing), 2, b"", "run `tools/build item`")
         self.check(run("tidy", data=b"a", tidier=self.program("x")), 2, b"", "no tidied tree")
 
 

@@ -69,7 +69,7 @@ file, parted by a blank line or by lines `paper : NAME`. `join`, `total`,
 above 4294967295 is 'too large', and only what has no bound is 'unbounded'.
 
 The answers are those of the proved programs marker, join, describe, tidy, item,
-fill and fill_by, which `rt check` builds; MARKER, JOIN, DESCRIBE, TIDY, ITEM,
+fill and fill_by, which `tools/build` makes; MARKER, JOIN, DESCRIBE, TIDY, ITEM,
 FILL and FILL_BY name others.
 
 Exit status: 0 fine; 1 wrong notation, a refused sheet or table of types, or a
