@@ -1,6 +1,5 @@
 //! Writes the stored answers: a sample of what must be answered (expected/),
-//! that the program of crates/replay compares with the proved library's answers,
-//! and of these the run of crates/marker.
+//! that the program of crates/replay compares with the proved library's answers.
 //! Run it by compare/run. The library takes no part in it. Exit status 0:
 //! written; 2: bad usage, or a file that cannot be written; a panic says that an
 //! answer did not come up, or that the harness itself is at fault.
@@ -8,7 +7,6 @@
 mod case;
 mod chains;
 mod kind;
-mod marker;
 mod shares;
 mod sheets;
 mod tidied;
@@ -22,8 +20,6 @@ use shares::Stored;
 /// Relative to the repository's root.
 const ANSWERS: &str = "crates/replay/stdin";
 const PRINTED: &str = "crates/replay/stdout";
-const SHEETS: &str = "crates/marker/stdin";
-const MARKS: &str = "crates/marker/stdout";
 
 fn main() {
     let seed = seed();
@@ -41,9 +37,6 @@ fn main() {
     let count = stored.cases.len();
     write(ANSWERS, &bytes);
     write(PRINTED, format!("{count} agreed, 0 differ\n").as_bytes());
-    let (sheets, marks) = marker::run(&stored.cases);
-    write(SHEETS, &sheets);
-    write(MARKS, marks.as_bytes());
     report(&stored);
     let (calls, trees) = stored.of_trees();
     println!(
@@ -58,7 +51,6 @@ fn main() {
         stored.asked(Operation::FillTypesBy),
     );
     println!("wrote {count} answers, {} bytes, to {ANSWERS}", bytes.len());
-    println!("wrote {} sheets, {} bytes, to {SHEETS}", marks.lines().count(), sheets.len());
 }
 
 fn seed() -> u64 {
