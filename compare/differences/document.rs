@@ -155,7 +155,7 @@ fn is_case(code: &str) -> bool {
 
 /// No tree has a hyphen.
 fn is_theorem(code: &str) -> bool {
-    code.contains('-') && code.bytes().all(|byte| byte == b'-' || byte.is_ascii_lowercase())
+    code.contains('_') && code.bytes().all(|byte| byte == b'_' || byte.is_ascii_lowercase())
 }
 
 /// The mark or refusal that a text begins with, and what follows it.
