@@ -153,7 +153,7 @@ fn is_case(code: &str) -> bool {
     code.contains('|') && !is_statement(code)
 }
 
-/// No tree has a hyphen.
+/// No tree has an underscore.
 fn is_theorem(code: &str) -> bool {
     code.contains('_') && code.bytes().all(|byte| byte == b'_' || byte.is_ascii_lowercase())
 }
