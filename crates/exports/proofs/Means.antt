@@ -4,9 +4,7 @@ use mathlib.Core.Bool.{Bool, cond}
 use mathlib.Core.List.{List, ◌++◌}
 use Prim.Native.Nat.{ℕ, ◌+◌, ◌≤◌, ◌<◌}
 use borrow.Author.Tests.{le-leb, lt-leb}
-use lib.ListN.{length, take, drop}
-use lib.Seq.{take_all}
-use native.Mathlib.Nat.{le_refl}
+use lib.ListN.{length, drop}
 use Rattle.entries.specs.Answer.{Answer}
 use Rattle.exports.specs.Numbers.{written}
 
@@ -27,10 +25,8 @@ sum_of b e = ap (λ (x : ℕ). b + x) e
 
 -- s is the item's bytes x, and was copied to the start of out, where it fits; one that does not fit was not
 module _ {s x : List ℕ} (e : s ≡ x) (out : List ℕ) where
-  pub fits : {after : List ℕ} → length s ≤ length out → after ≡ take (length s) s ++ drop (length s) out → after ≡ written x out
-  fits h k =
-      k ∙ (ap (λ (y : List ℕ). y ++ drop (length s) out) (take_all (length s) s (le_refl (length s)))
-      ∙ (sym (ap (λ (b : Bool). cond b (s ++ drop (length s) out) out) (le-leb _ _ h)) ∙ ap (λ (y : List ℕ). written y out) e))
+  pub fits : length s ≤ length out → {y : List ℕ} → y ≡ s → y ++ drop (length s) out ≡ written x out
+  fits h k = ap (λ (y : List ℕ). y ++ drop (length s) out) k ∙ (sym (ap (λ (b : Bool). cond b (s ++ drop (length s) out) out) (le-leb _ _ h)) ∙ ap (λ (y : List ℕ). written y out) e)
 
   pub too_long : length out < length s → out ≡ written x out
   too_long h = sym (ap (λ (b : Bool). cond b (s ++ drop (length s) out) out) (lt-leb _ _ h)) ∙ ap (λ (y : List ℕ). written y out) e
