@@ -22,7 +22,7 @@ mod words;
 pub use words::{Reason, Refusal};
 
 // As link/marker.h declares them: a slice is a pointer and a length. That these
-// lines are those of crates/exports is held by link/check-names.
+// lines are those of crates/exports_c is held by link/check-names.
 extern "C" {
     fn marker_mark(sheet: *const u8, sheet_len: usize) -> u32;
     fn marker_total_min(tree: *const u8, tree_len: usize) -> u64;
