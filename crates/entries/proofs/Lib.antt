@@ -5,3 +5,4 @@ pub mod Shallow
 pub mod TidiedFits
 pub mod TidiedAgain
 pub mod TidiedKept
+pub mod TidiedFacts

@@ -13,8 +13,8 @@ use Rattle.particle.specs.Empty.{emptiable}
 use Rattle.particle.proofs.ItemEncodes.{length_encode}
 use Rattle.totals.specs.Exact.{exact_total}
 use Rattle.totals.specs.Total.{total}
-use Rattle.language.specs.Language.{Allows}
-use Rattle.language.specs.Premises.{BelowRoot, Throughout, NoZeroMaximum, Ordered}
+use Rattle.language.specs.Language.{Names, Allows}
+use Rattle.language.specs.Premises.{BelowRoot, Throughout, NoZeroMaximum, NoEmptyChoice, Ordered}
 use Rattle.tidying.specs.Tidy.{tidy}
 use Rattle.tidying.specs.Depth.{depth_of}
 use Rattle.tidying.specs.TidyTree.{BelowOutside, Outside, NoOwnKind, NoLoneItem, NoLoneChoice}
@@ -25,7 +25,7 @@ use Rattle.tidying.proofs.Emptiness.{tidy_emptiable, tidied_emptiable}
 use Rattle.tidying.proofs.Allowed.{tidy_allows, tidy_allows_no_more}
 use Rattle.intake.specs.Scan.{alone}
 use Rattle.entries.specs.Answer.{answer, refusal_alone}
-use Rattle.entries.specs.TidyFacts.{Tidies, tidied_bytes, WrittenNoZeroMaximum, WrittenNoOwnKind, WrittenNoLoneItem, WrittenNoLoneChoice, WrittenNoLonger, WrittenNoDeeper, WrittenMaximum, WrittenMinimum, WrittenEmptiable, WrittenAllowsNoMore, KeptAllows, KeptEmptiable, KeptTotal}
+use Rattle.entries.specs.TidyFacts.{Tidies, tidied_bytes}
 use Rattle.entries.proofs.TidiedFits.{tidy_fits, fits_ordered, outside_everywhere}
 use Rattle.entries.proofs.TidiedAgain.{taken, bytes_are, tree_is, handed_in, tidied_accepted}
 
@@ -38,59 +38,60 @@ module _ {t out : List ℕ} {n : ℕ} (a : Tidies t out n) where
   on_tidied : (P : Particle → Type 0) → P (tidy (tree t)) → P (tree (tidied_bytes t out n))
   on_tidied P = subst P (sym (tree_is a))
 
+  -- Its shape ------------------------------------------------------------------------------------
+
   -- a sentence holds inside all-groups too: there are elements only
   shaped : (P : Head → Items → Type 0) → ((l : ℕ) (p : Occurs) (k : Items) → P (element l p) k) → Outside P (tidy (tree t)) → Throughout P (tree (tidied_bytes t out n))
   shaped P e o = on_tidied (Throughout P) (outside_everywhere alone P e (tidy (tree t)) (tidy_fits alone (tree t) (handed_in a).1) o)
 
+  pub written_no_zero_maximum : BelowOutside NoZeroMaximum (tree (tidied_bytes t out n))
+  written_no_zero_maximum = on_tidied (BelowOutside NoZeroMaximum) (no_zero_maximum_lem (tree t))
+
+  pub written_no_own_kind : Throughout NoOwnKind (tree (tidied_bytes t out n))
+  written_no_own_kind = shaped NoOwnKind (λ l p k s. absurd s) (no_own_kind_lem (tree t))
+
+  pub written_no_lone_item : Throughout NoLoneItem (tree (tidied_bytes t out n))
+  written_no_lone_item = shaped NoLoneItem (λ l p k s. absurd s) (no_lone_item_lem (tree t))
+
+  pub written_no_lone_choice : Throughout NoLoneChoice (tree (tidied_bytes t out n))
+  written_no_lone_choice = shaped NoLoneChoice (λ l p k q i e. absurd (not_sequence l p q e)) (no_lone_choice_lem (tree t))
+
+  -- Of every accepted tree -----------------------------------------------------------------------
+
   ordered : BelowRoot Ordered (tree t)
   ordered = (fits_ordered alone (tree t) (handed_in a).1).1
+
+  pub written_no_longer : length (tidied_bytes t out n) ≤ length t
+  written_no_longer =
+      omega (arith, ap length (bytes_are a), length_encode (single (tidy (tree t))), tidy_smaller (tree t), ap length (handed_in a).0, length_encode (single (tree t)))
+
+  pub written_no_deeper : depth_of (single (tree (tidied_bytes t out n))) ≤ depth_of (single (tree t))
+  written_no_deeper = on_tidied (λ x. depth_of (single x) ≤ depth_of (single (tree t))) (tidy_shallower (tree t))
+
+  pub written_maximum : (total (tree (tidied_bytes t out n))).max ≡ (total (tree t)).max
+  written_maximum = on_tidied (λ x. (total x).max ≡ (total (tree t)).max) (tidy_total_max (tree t))
+
+  pub written_minimum : (exact_total (tree t)).min ≤ (exact_total (tree (tidied_bytes t out n))).min
+  written_minimum = on_tidied (λ x. (exact_total (tree t)).min ≤ (exact_total x).min) (tidy_exact_min (tree t) ordered)
+
+  pub written_emptiable : emptiable (tree (tidied_bytes t out n)) ≡ true → emptiable (tree t) ≡ true
+  written_emptiable = on_tidied (λ x. emptiable x ≡ true → emptiable (tree t) ≡ true) (tidied_emptiable (tree t) ordered)
+
+  pub written_allows_no_more : (names : Names) (w : List ℕ) → Allows names (tree (tidied_bytes t out n)) w → Allows names (tree t) w
+  written_allows_no_more names w = on_tidied (λ x. Allows names x w → Allows names (tree t) w) (tidy_allows_no_more names (tree t) ordered w)
+
+  -- Where the tree handed in has no zero maximum and no empty choice below its root ------------------
 
   -- an entry for one tree answers alike
   alike : {A : Type 0} (f : Particle → A) → f (tidy (tree t)) ≡ f (tree t) → answer (refusal_alone (tidied_bytes t out n)) (f (tree (tidied_bytes t out n))) ≡ answer (refusal_alone t) (f (tree t))
   alike f e = ap₂ answer ((tidied_accepted t out n a).0 ∙ sym (taken a).accepted) (ap f (tree_is a) ∙ e)
 
--- The tree that is written -----------------------------------------------------------------------
+  pub kept_allows : BelowRoot NoZeroMaximum (tree t) → (names : Names) (w : List ℕ) → Allows names (tree (tidied_bytes t out n)) w ↔ Allows names (tree t) w
+  kept_allows z names w = on_tidied (λ x. Allows names x w ↔ Allows names (tree t) w) (tidy_allows names (tree t) z w)
 
-pub written_no_zero_maximum : WrittenNoZeroMaximum
-written_no_zero_maximum t out n a = on_tidied a (BelowOutside NoZeroMaximum) (no_zero_maximum_lem (tree t))
+  module _ (z : BelowRoot NoZeroMaximum (tree t)) (e : BelowRoot NoEmptyChoice (tree t)) where
+    pub kept_emptiable : answer (refusal_alone (tidied_bytes t out n)) (emptiable (tree (tidied_bytes t out n))) ≡ answer (refusal_alone t) (emptiable (tree t))
+    kept_emptiable = alike emptiable (tidy_emptiable (tree t) z e)
 
-pub written_no_own_kind : WrittenNoOwnKind
-written_no_own_kind t out n a = shaped a NoOwnKind (λ l p k s. absurd s) (no_own_kind_lem (tree t))
-
-pub written_no_lone_item : WrittenNoLoneItem
-written_no_lone_item t out n a = shaped a NoLoneItem (λ l p k s. absurd s) (no_lone_item_lem (tree t))
-
-pub written_no_lone_choice : WrittenNoLoneChoice
-written_no_lone_choice t out n a = shaped a NoLoneChoice (λ l p k q i e. absurd (not_sequence l p q e)) (no_lone_choice_lem (tree t))
-
--- What becomes of every tree ---------------------------------------------------------------------
-
-pub written_no_longer : WrittenNoLonger
-written_no_longer t out n a =
-    omega (arith, ap length (bytes_are a), length_encode (single (tidy (tree t))), tidy_smaller (tree t), ap length (handed_in a).0, length_encode (single (tree t)))
-
-pub written_no_deeper : WrittenNoDeeper
-written_no_deeper t out n a = on_tidied a (λ x. depth_of (single x) ≤ depth_of (single (tree t))) (tidy_shallower (tree t))
-
-pub written_maximum : WrittenMaximum
-written_maximum t out n a = on_tidied a (λ x. (total x).max ≡ (total (tree t)).max) (tidy_total_max (tree t))
-
-pub written_minimum : WrittenMinimum
-written_minimum t out n a = on_tidied a (λ x. (exact_total (tree t)).min ≤ (exact_total x).min) (tidy_exact_min (tree t) (ordered a))
-
-pub written_emptiable : WrittenEmptiable
-written_emptiable t out n a = on_tidied a (λ x. emptiable x ≡ true → emptiable (tree t) ≡ true) (tidied_emptiable (tree t) (ordered a))
-
-pub written_allows_no_more : WrittenAllowsNoMore
-written_allows_no_more t out n a names w = on_tidied a (λ x. Allows names x w → Allows names (tree t) w) (tidy_allows_no_more names (tree t) (ordered a) w)
-
--- What is kept -----------------------------------------------------------------------------------
-
-pub kept_allows : KeptAllows
-kept_allows t out n a z names w = on_tidied a (λ x. Allows names x w ↔ Allows names (tree t) w) (tidy_allows names (tree t) z w)
-
-pub kept_emptiable : KeptEmptiable
-kept_emptiable t out n a z e = alike a emptiable (tidy_emptiable (tree t) z e)
-
-pub kept_total : KeptTotal
-kept_total t out n a z e = alike a total (tidy_total (tree t) z e)
+    pub kept_total : answer (refusal_alone (tidied_bytes t out n)) (total (tree (tidied_bytes t out n))) ≡ answer (refusal_alone t) (total (tree t))
+    kept_total = alike total (tidy_total (tree t) z e)

@@ -1,7 +1,7 @@
 -- Tidying keeps what a tree allows, where the tree has no zero maximum below its root; where pairs are in order, the tidied tree allows no more. Assumes nothing.
 use mathlib.Core.Bool.{true}
 use mathlib.Core.List.{List, [], ◌∷◌, ◌++◌}
-use mathlib.Core.Logic.{inl, inr, ⊎_elim}
+use mathlib.Core.Logic.{inl, inr, ⊎_elim, ◌↔◌}
 use mathlib.Core.Path.{◌≡◌, refl}
 use Prim.Native.Nat.{ℕ}
 use Rattle.particle.specs.Occurs.{is_once}
@@ -62,6 +62,10 @@ module _ (names : Names) where
     paired = λ g h e Ws. turned (paired Ws g h e);
   }
 
+  pub tidy_allows : (x : Particle) → BelowRoot NoZeroMaximum x → (w : List ℕ) → Allows names (tidy x) w ↔ Allows names x w
+  unfolding Allows
+  tidy_allows = tidy_keeps words_kept tidy_no_zero_maximum
+
   -- With a zero maximum below the root -------------------------------------------------------
 
   -- no round, where the minimum is 0
@@ -89,6 +93,5 @@ module _ (names : Names) where
 
 -- Without one ----------------------------------------------------------------------------------
 
-pub tidy_allows : TidyAllows
-unfolding Allows
-tidy_allows names = tidy_keeps (words_kept names) tidy_no_zero_maximum
+pub keeps_allowed : TidyAllows
+keeps_allowed = tidy_allows
