@@ -1,7 +1,7 @@
 /*
  * marker.h: mark exam sheets in process, from C99 or C++11. Link with
  * libexports.a, which link/build writes to target/staticlib. The archive is for
- * x86-64 Linux. link/README.md has an example. words.h, which this header
+ * Linux on x86-64-v2. link/README.md has an example. words.h, which this header
  * includes, has the numbers of reasons and refusals and their words, and types.h
  * those of types, their names and parents; sheet.h writes a sheet, a tree or a
  * chain into a buffer.
