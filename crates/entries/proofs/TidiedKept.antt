@@ -20,7 +20,8 @@ use Rattle.tidying.specs.Depth.{depth_of}
 use Rattle.tidying.specs.TidyTree.{BelowOutside, Outside, NoOwnKind, NoLoneItem, NoLoneChoice}
 use Rattle.tidying.proofs.Shape.{no_zero_maximum_lem, no_own_kind_lem, no_lone_item_lem, no_lone_choice_lem}
 use Rattle.tidying.proofs.Sizes.{tidy_smaller, tidy_shallower}
-use Rattle.tidying.proofs.TotalsKept.{tidy_exact_min, tidy_total_max, tidy_total}
+use Rattle.tidying.proofs.TotalsKept.{tidy_exact_min, tidy_total_max}
+use Rattle.tidying.proofs.Stated.{tidy_total}
 use Rattle.tidying.proofs.Emptiness.{tidy_emptiable, tidied_emptiable}
 use Rattle.tidying.proofs.Allowed.{tidy_allows, tidy_allows_no_more}
 use Rattle.intake.specs.Scan.{alone}

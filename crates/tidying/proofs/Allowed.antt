@@ -12,7 +12,6 @@ use Rattle.language.proofs.Words.{◌⊆◌, ◌≐◌, same, turned, ◌⟫◌,
 use Rattle.language.proofs.Rounds.{rounds_each, rounds_same, no_round, once_same}
 use Rattle.tidying.specs.Tidy.{splices, takes_pair, tidy}
 use Rattle.tidying.specs.TidyTree.{Group}
-use Rattle.tidying.specs.TidyKept.{TidyAllows}
 use Rattle.tidying.proofs.Steps.{group_cases, splices_cases, takes_cases, zero_is, zero_min}
 use Rattle.tidying.proofs.Premises.{tidy_no_zero_maximum, tidy_ordered}
 use Rattle.tidying.proofs.FoldsKept.{StepsKept, tidy_keeps}
@@ -90,8 +89,3 @@ module _ (names : Names) where
   pub tidy_allows_no_more : (x : Particle) → BelowRoot Ordered x → (w : List ℕ) → Allows names (tidy x) w → Allows names x w
   unfolding Allows
   tidy_allows_no_more = tidy_keeps words_within tidy_ordered
-
--- Without one ----------------------------------------------------------------------------------
-
-pub keeps_allowed : TidyAllows
-keeps_allowed = tidy_allows

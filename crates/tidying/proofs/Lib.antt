@@ -6,6 +6,7 @@ pub mod TidiedWithin
 pub mod Ranges
 pub mod TotalsKept
 pub mod Emptiness
+pub mod Stated
 pub mod Sizes
 pub mod Examples
 pub mod TidyTrees

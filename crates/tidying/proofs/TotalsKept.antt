@@ -11,13 +11,12 @@ use Rattle.particle.specs.declared.Occurs.{Occurs}
 use Rattle.particle.specs.Occurs.{exactly, is_once}
 use Rattle.particle.specs.Tree.{Head, element, wildcard, sequence, choice, all, Items, none, item, Particle, pair_of, fold}
 use Rattle.totals.specs.Exact.{mul_max, mul_range, sum, span, exact_from, exact_total}
-use Rattle.totals.specs.Total.{cut, cut_max, total}
+use Rattle.totals.specs.Total.{cut_max, total}
 use Rattle.language.specs.Premises.{Every, BelowRoot, NoEmptyChoice, Ordered, NoZeroMaximum}
 use Rattle.language.proofs.Premises.{every_both}
 use Rattle.language.proofs.Rounds.{once_is}
 use Rattle.tidying.specs.Tidy.{splices, takes_pair, tidy}
 use Rattle.tidying.specs.TidyTree.{Group}
-use Rattle.tidying.specs.TidyKept.{TidyExactTotal, TidyTotal}
 use Rattle.tidying.proofs.Steps.{group_cases, splices_cases, takes_cases, zero_is, zero_min}
 use Rattle.tidying.proofs.Premises.{Plain, tidy_heads, tidy_ordered, tidy_plain}
 use Rattle.tidying.proofs.FoldsKept.{StepsKept, tidy_keeps}
@@ -177,13 +176,3 @@ tidy_total_max x = ap cut_max (tidy_exact_max x)
 pub tidy_exact_total : (x : Particle) → BelowRoot NoZeroMaximum x → BelowRoot NoEmptyChoice x → exact_total (tidy x) ≡ exact_total x
 unfolding exact_total
 tidy_exact_total x z n = same_range (tidy_keeps min_kept tidy_plain x (every_both (λ h k a b. (a, b)) x.items z n)) (tidy_exact_max x)
-
-pub tidy_total : (x : Particle) → BelowRoot NoZeroMaximum x → BelowRoot NoEmptyChoice x → total (tidy x) ≡ total x
-unfolding total
-tidy_total x z n = ap cut (tidy_exact_total x z n)
-
-pub keeps_exact_total : TidyExactTotal
-keeps_exact_total = tidy_exact_total
-
-pub keeps_total : TidyTotal
-keeps_total = tidy_total
