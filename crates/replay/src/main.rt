@@ -150,9 +150,9 @@ fn replay_body(
     lent: &mut [u8],
     after: &mut [u8],
 ) -> io::Result<Outcome>
-    requires value { 65536 ≡ length input.old }
-    requires value_2 { 65536 ≡ length lent.old }
-    requires value_3 { 65536 ≡ length after.old }
+    requires input_len { 65536 ≡ length input.old }
+    requires lent_len { 65536 ≡ length lent.old }
+    requires after_len { 65536 ≡ length after.old }
 {
     let n = streams::number_at(head, 3);
     let room = streams::number_at(head, 5);
