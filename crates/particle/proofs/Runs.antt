@@ -115,3 +115,7 @@ module _ {n : ℕ} {t rest : List ℕ} {left : ℕ} (a : RowLeft n t rest left) 
   row_done h =
       let z : left ≡ 0 = omega arith in
       rw z at a.unread ∙ omega arith
+
+-- one tree fewer, after the first
+pub run_rest : {n k : ℕ} {t : List ℕ} → n ≡ suc k → Run n t → Run k (later_part t)
+run_rest {n} {k} {t} e w = later_run (rw (sym e) w)

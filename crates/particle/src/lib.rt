@@ -3,6 +3,7 @@
 
 mod empty;
 mod measured;
+mod subtrees;
 
 ghost use Rattle.std.specs.Prelude.{◌≡◌, ◌+◌, ◌%◌, ◌≤◌, ◌<◌, length, drop};
 ghost use Rattle.std.proofs.lemmas.List.Edits.{sets};
@@ -15,6 +16,7 @@ ghost use Rattle.particle.specs.Rows.{Row, items_part, later_part, run_size, ite
 
 pub use empty::emptiable;
 pub use measured::{after, measure, next, told_emptiable};
+pub use subtrees::{Subtree, Subtrees};
 
 // The length of a record in bytes.
 pub const RECORD_SIZE: usize = 16;
