@@ -4,7 +4,7 @@ pub mod Tree
 pub mod Rows
 pub mod Empty
 pub mod Runs
+pub mod Props
 pub mod Subtrees
-pub mod Steps
 pub mod Encode
 pub mod Write

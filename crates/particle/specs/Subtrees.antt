@@ -1,19 +1,24 @@
--- That each fact which the types of measured subtrees hold has one proof at most, as a ghost field's must.
-use Rattle.std.specs.Prelude.{List, [], ◌∷◌}
-use Rattle.std.specs.Coded.{×_prop, Unit-prop, le_prop}
-use denote.Struct.Props as logic
-use Rattle.particle.specs.declared.Record.{Record}
-use Rattle.particle.specs.Rows.{Complete}
-use Rattle.particle.specs.Runs.{Measured}
+-- Measured subtrees, and rows of them: which trees they are, and how a row goes on. Assumes nothing: these are definitions.
+use Rattle.std.specs.Prelude.{◌≡◌, ◌+◌, Option, None, Some}
+use Rattle.particle.specs.declared.subtrees.Subtree.{Subtree}
+use Rattle.particle.specs.declared.subtrees.Subtrees.{Subtrees}
+use Rattle.particle.specs.Record.{record_at}
+use Rattle.particle.specs.Tree.{Particle, Items, tree}
+use Rattle.particle.specs.Rows.{row, items_part, later_part}
 
-pub Complete-prop : (rs : List Record) → IsProp (Complete rs)
-unfolding Complete
-Complete-prop [] = Unit-prop
-Complete-prop (r ∷ rs) = ×_prop le_prop (Complete-prop rs)
+-- the tree that a subtree is
+abbrev pub tree_of : Subtree → Particle
+tree_of s = tree s.bytes.now
 
-pub Measured-prop : (rs : List Record) → IsProp (Measured rs)
-unfolding Measured
-Measured-prop [] = Unit-prop
-Measured-prop (r ∷ rs) = ×_prop (Prim.hlevel logic.props) (Measured-prop rs)
+-- the items of that tree
+abbrev pub items_of : Subtree → Items
+items_of s = row (record_at s.bytes.now).count (items_part s.bytes.now)
 
-pub ruleset props = (logic.props, Complete-prop, Measured-prop)
+-- the trees of a row
+abbrev pub row_of : Subtrees → Items
+row_of s = row s.count s.bytes.now
+
+-- a step gives the first subtree and leaves the others, or gives nothing where none is left
+abbrev pub GivesFirst : Subtrees → Option Subtree → Subtrees → Type 0
+GivesFirst old None new = (old.count ≡ 0) × (new.count ≡ 0)
+GivesFirst old (Some first) new = (first.bytes.now ≡ old.bytes.now) × (new.bytes.now ≡ later_part old.bytes.now) × (old.count ≡ new.count + 1)

@@ -6,7 +6,7 @@ ghost use Rattle.particle.specs.Tree.{tree};
 ghost use Rattle.particle.specs.Rows.{items_part, later_part};
 ghost use Rattle.particle.specs.Empty.{emptiable};
 ghost use Rattle.particle.specs.Runs.{Run};
-ghost use Rattle.particle.specs.Subtrees.{props};
+ghost use Rattle.particle.specs.Props.{props};
 
 use crate::{Record, items, next, record_at, told_emptiable};
 
@@ -65,7 +65,7 @@ impl<'a> Subtree<'a> {
 
 impl<'a> Iterator for Subtrees<'a> {
     ghost use Rattle.std.specs.Iterator.{at_most};
-    ghost use Rattle.particle.specs.Steps.{GivesFirst};
+    ghost use Rattle.particle.specs.Subtrees.{GivesFirst};
 
     type Item = Subtree<'a>;
 
