@@ -1,5 +1,5 @@
 -- The laws by which callers read trees: the first tree of a row, its items, and the trees after it. Assumes nothing.
-use mathlib.Core.Path.{◌≡◌, refl, ap, ◌∙◌}
+use mathlib.Core.Path.{◌≡◌, refl, ap, sym, ◌∙◌}
 use mathlib.Core.List.{List, ◌∷◌}
 use Prim.Native.Nat.{ℕ, suc, ◌+◌, ◌*◌, ◌-◌, ◌≤◌, ◌<◌}
 use native.Mathlib.Nat.{le_of_eq}
@@ -102,3 +102,7 @@ row_sizes {n} {t} w h =
     let e : n ≡ suc (n - 1) = omega arith in
     let some : Row (suc (n - 1)) t = row_le (omega arith) w in
     rw (ap (λ (k : ℕ). row k t) e, row_is some, row_one (row_le h w)) (omega arith)
+
+-- one tree fewer, after the first
+pub row_rest : {n k : ℕ} {t : List ℕ} → n ≡ suc k → Row n t → Row k (later_part t)
+row_rest {n} {k} {t} e w = later_row (rw (sym e) w)

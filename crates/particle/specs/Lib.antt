@@ -6,5 +6,6 @@ pub mod Empty
 pub mod Runs
 pub mod Props
 pub mod Subtrees
+pub mod MeasuredTrees
 pub mod Encode
 pub mod Write

@@ -1,7 +1,8 @@
--- Measured subtrees, and rows of them: which trees they are, and how a row goes on. Assumes nothing: these are definitions.
+-- Subtrees, and rows of them: which trees they are, and how a row goes on. Assumes nothing: these are definitions.
 use Rattle.std.specs.Prelude.{◌≡◌, ◌+◌, Option, None, Some}
 use Rattle.particle.specs.declared.subtrees.Subtree.{Subtree}
 use Rattle.particle.specs.declared.subtrees.Subtrees.{Subtrees}
+use Rattle.particle.specs.declared.measured_trees.MeasuredTrees.{MeasuredTrees}
 use Rattle.particle.specs.Record.{record_at}
 use Rattle.particle.specs.Tree.{Particle, Items, tree}
 use Rattle.particle.specs.Rows.{row, items_part, later_part}
@@ -22,3 +23,7 @@ row_of s = row s.count s.bytes.now
 abbrev pub GivesFirst : Subtrees → Option Subtree → Subtrees → Type 0
 GivesFirst old None new = (old.count ≡ 0) × (new.count ≡ 0)
 GivesFirst old (Some first) new = (first.bytes.now ≡ old.bytes.now) × (new.bytes.now ≡ later_part old.bytes.now) × (old.count ≡ new.count + 1)
+
+-- a row of measured trees is the same row
+abbrev pub SameRow : MeasuredTrees → Subtrees → Type 0
+SameRow a b = (b.bytes.now ≡ a.bytes.now) × (b.count ≡ a.count)

@@ -3,6 +3,7 @@
 
 mod empty;
 mod measured;
+mod measured_trees;
 mod subtrees;
 
 ghost use Rattle.std.specs.Prelude.{◌≡◌, ◌+◌, ◌%◌, ◌≤◌, ◌<◌, length, drop};
@@ -16,6 +17,7 @@ ghost use Rattle.particle.specs.Rows.{Row, items_part, later_part, run_size, ite
 
 pub use empty::emptiable;
 pub use measured::{after, measure, next, told_emptiable};
+pub use measured_trees::{MeasuredTree, MeasuredTrees};
 pub use subtrees::{Subtree, Subtrees};
 
 // The length of a record in bytes.

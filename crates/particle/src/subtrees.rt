@@ -1,20 +1,17 @@
-// Measured subtrees: the first tree of a part of a tree's bytes, and so many of them one after another. That they are measured is part of
-// the types, so that no function asks for it.
+// Subtrees, each one run of records: the first tree of a part of a tree's bytes, and so many of them one after another. That the bytes hold
+// them is part of the types, so that no function asks for it.
 ghost use Rattle.std.specs.Prelude.{◌≡◌};
 ghost use Rattle.particle.specs.Record.{record_at};
-ghost use Rattle.particle.specs.Tree.{tree};
-ghost use Rattle.particle.specs.Rows.{items_part, later_part};
-ghost use Rattle.particle.specs.Empty.{emptiable};
-ghost use Rattle.particle.specs.Runs.{Run};
+ghost use Rattle.particle.specs.Rows.{Row, items_part};
 ghost use Rattle.particle.specs.Props.{props};
 
-use crate::{Record, items, next, record_at, told_emptiable};
+use crate::{MeasuredTrees, Record, items, later, record_at};
 
-// A subtree is one run of records: the first tree of a part of a tree's bytes.
+// The first tree of a part of a tree's bytes.
 #[derive(Clone, Copy)]
 pub struct Subtree<'a> {
     pub bytes: &'a [u8],
-    pub ghost run: { Run 1 bytes.now } by { Prim.hlevel props },
+    pub ghost row: { Row 1 bytes.now } by { Prim.hlevel props },
 }
 
 // The first `count` trees of a part of a tree's bytes.
@@ -22,7 +19,7 @@ pub struct Subtree<'a> {
 pub struct Subtrees<'a> {
     pub bytes: &'a [u8],
     pub count: usize,
-    pub ghost run: { Run count bytes.now } by { Prim.hlevel props },
+    pub ghost row: { Row count bytes.now } by { Prim.hlevel props },
 }
 
 impl<'a> Subtree<'a> {
@@ -31,13 +28,6 @@ impl<'a> Subtree<'a> {
         ensures { result ≡ record_at self.entry.bytes.now }
     {
         record_at(self.bytes)
-    }
-
-    // Whether it is emptiable.
-    pub fn emptiable(self) -> bool
-        ensures { result ≡ emptiable (tree self.entry.bytes.now) }
-    {
-        told_emptiable(self.bytes)
     }
 
     // Its items.
@@ -50,15 +40,17 @@ impl<'a> Subtree<'a> {
             count: record_at(self.bytes).count as usize,
         }
     }
+}
 
-    // It alone, as one of a row.
-    pub fn alone(self) -> Subtrees<'a>
-        ensures bytes { result.bytes.now ≡ self.entry.bytes.now }
-        ensures count { result.count ≡ 1 }
-    {
+impl<'a> From<MeasuredTrees<'a>> for Subtrees<'a> {
+    ghost use Rattle.particle.specs.Subtrees.{SameRow};
+
+    ghost from_gives = { SameRow };
+
+    fn from(trees: MeasuredTrees<'a>) -> Subtrees<'a> {
         Subtrees {
-            bytes: self.bytes,
-            count: 1,
+            bytes: trees.bytes,
+            count: trees.count,
         }
     }
 }
@@ -78,9 +70,8 @@ impl<'a> Iterator for Subtrees<'a> {
             return None;
         }
         let first = Subtree { bytes: self.bytes };
-        let rest = next(self.bytes);
         *self = Subtrees {
-            bytes: rest,
+            bytes: later(self.bytes),
             count: self.count - 1,
         };
         Some(first)

@@ -1,0 +1,6 @@
+-- `MeasuredTree::record` meets its contract. Assumes nothing.
+use Rattle.particle.proofs.Laws.{some_bytes}
+use Rattle.particle.proofs.measured_trees.MeasuredTree.record.Goals as goal
+
+pub record_at-requires : goal.record_at-requires
+record_at-requires c = some_bytes c.args.self.run.row
