@@ -2,7 +2,7 @@
 use mathlib.Core.Bool.{Bool, true, false, ◌||◌, beq, true≢false, false≢true}
 use mathlib.Core.List.{List, [], ◌∷◌}
 use mathlib.Core.Path.{◌≡◌, refl, ap, sym, ◌∙◌}
-use Prim.Native.Nat.{ℕ, ◌-◌, ◌≤◌, ◌<◌}
+use Prim.Native.Nat.{ℕ, suc, ◌-◌, ◌≤◌, ◌<◌}
 use native.Mathlib.Omega.{arith}
 use borrow.Author.Tests.{ne_eqb}
 use lib.Dec.{eqb}
@@ -42,18 +42,18 @@ module _ {t : List ℕ} {r : Record} (w : Row 1 t) (e : r ≡ record_at t) where
         sym (first_choice emptiable_from w e k
         ∙ (required (range_of r) _ z ∙ ap (λ (es : List Bool). is_empty es || some es) (fold_none emptiable_from r.count (items_part t) n)))
 
-    -- s are its items, and u says of them what the group asks
-    module _ {s : List ℕ} (i : s ≡ items_part t) {u : Bool} where
-      pub choice_tree : r.kind ≡ 3 → (r.count ≡ 0 → ⊥) → u ≡ some (fold emptiable_from (row r.count s)) → u ≡ emptiable (tree t)
+    -- the n trees of s are its items, and u says of them what the group asks
+    module _ {s : List ℕ} (i : s ≡ items_part t) {n : ℕ} (all : n ≡ (record_at t).count) {u : Bool} where
+      pub choice_tree : r.kind ≡ 3 → (r.count ≡ 0 → ⊥) → u ≡ some (fold emptiable_from (row n s)) → u ≡ emptiable (tree t)
       unfolding emptiable
       choice_tree k n q =
           let es = fold emptiable_from (row r.count (items_part t)) in
-          q ∙ rw i (sym (first_choice emptiable_from w e k
+          q ∙ rw (i, all ∙ sym (ap (λ (x : Record). x.count) e)) (sym (first_choice emptiable_from w e k
           ∙ (required (range_of r) _ z ∙ ap (λ (xs : List Bool). is_empty xs || some es) (fold_some emptiable_from r.count (items_part t) (items_are w e) n refl refl))))
 
-      pub ordered_tree : 2 ≤ r.kind → (r.kind ≡ 3 → ⊥) → u ≡ every (fold emptiable_from (row r.count s)) → u ≡ emptiable (tree t)
+      pub ordered_tree : 2 ≤ r.kind → (r.kind ≡ 3 → ⊥) → u ≡ every (fold emptiable_from (row n s)) → u ≡ emptiable (tree t)
       unfolding emptiable
-      ordered_tree k k' q = q ∙ rw i (sym (first_ordered emptiable_from w e (λ p es. refl) k k' ∙ required (range_of r) _ z))
+      ordered_tree k k' q = q ∙ rw (i, all ∙ sym (ap (λ (x : Record). x.count) e)) (sym (first_ordered emptiable_from w e (λ p es. refl) k k' ∙ required (range_of r) _ z))
 
 -- the items of a group, one after the other: the first that is not as `each` asks decides
 none_decides : (each : Bool) → each ≡ every_or_some each []
@@ -84,14 +84,16 @@ module _ {each : Bool} {n : ℕ} {t : List ℕ} where
     pub items_end : i ≤ 0 → each ≡ every_or_some each (fold emptiable_from (row n t))
     items_end z = none_decides each ∙ sym (w.rest_says ∙ ap (every_or_some each) (fold_none emptiable_from i s (omega arith)))
 
-    -- e: whether the next item is emptiable
-    module _ (trees : Row i s) {m : ℕ} (some : m < i) {e : Bool} (q : e ≡ emptiable (tree s)) where
-      first_then_later : {u : List ℕ} → u ≡ later_part s → every_or_some each (fold emptiable_from (row n t)) ≡ every_or_some each (e ∷ fold emptiable_from (row (i - 1) u))
+    -- e: whether the next item is emptiable; j items come after it
+    module _ (trees : Row i s) {j : ℕ} (some : i ≡ suc j) {e : Bool} (q : e ≡ emptiable (tree s)) where
+      first_then_later : {u : List ℕ} → u ≡ later_part s → every_or_some each (fold emptiable_from (row n t)) ≡ every_or_some each (e ∷ fold emptiable_from (row j u))
       unfolding emptiable
-      first_then_later p = w.rest_says ∙ ap (every_or_some each) (fold_some emptiable_from i s trees (λ z. omega arith) q p)
+      first_then_later {u} p =
+          let one_fewer : i - 1 ≡ j = omega (arith, some) in
+          w.rest_says ∙ ap (every_or_some each) (fold_some emptiable_from i s trees (λ z. omega (arith, some, z)) q p ∙ ap (λ (k : ℕ). e ∷ fold emptiable_from (row k u)) one_fewer)
 
       pub item_decides : beq e each ≡ false → e ≡ every_or_some each (fold emptiable_from (row n t))
       item_decides b = first_decides each e _ b ∙ sym (first_then_later refl)
 
-      pub items_next : {u : List ℕ} → u ≡ later_part s → beq e each ≡ true → ItemsLeft each n t u (i - 1)
+      pub items_next : {u : List ℕ} → u ≡ later_part s → beq e each ≡ true → ItemsLeft each n t u j
       items_next p b = record { rest_says = first_then_later p ∙ sym (later_decide each e _ b) }

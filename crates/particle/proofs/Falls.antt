@@ -1,6 +1,6 @@
 -- What each call inside the two cycles asks: a row of trees, and a smaller measure. The measure of a tree is twice its part's length, that of a row one more. Assumes nothing.
 use mathlib.Core.List.{List}
-use mathlib.Core.Path.{◌≡◌}
+use mathlib.Core.Path.{◌≡◌, sym}
 use Prim.Native.Nat.{ℕ, suc, ◌+◌, ◌*◌, ◌-◌, ◌≤◌, ◌<◌}
 use native.Mathlib.Nat.{le_refl}
 use native.Mathlib.Omega.{arith}
@@ -42,6 +42,12 @@ module _ {m i : ℕ} {s t : List ℕ} (w : Part i s t) (some : m < i) where
   part_next e =
       let from : Row (suc (i - 1)) s = row_le (omega arith) w.trees in
       rw e (record { trees = later_row from; within = omega (arith, w.within, later_shorter from) })
+
+-- one tree further on, with j trees left
+pub part_after : {i j : ℕ} {s t u : List ℕ} → Part i s t → i ≡ suc j → u ≡ later_part s → Part j u t
+part_after {j} w e p =
+    let from : Row (suc j) _ = rw (sym e) w.trees in
+    rw p (record { trees = later_row from; within = omega (arith, w.within, later_shorter from) })
 
 -- the items of a tree
 module _ {t : List ℕ} (w : Row 1 t) {s : List ℕ} (p : s ≡ items_part t) where

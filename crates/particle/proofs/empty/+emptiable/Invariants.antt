@@ -4,13 +4,12 @@ use Rattle.particle.proofs.Falls.{of_tree, of_row, Part}
 use Rattle.particle.proofs.empty.+emptiable.Given as goal
 
 abbrev pub decreases-emptiable : goal.decreases-emptiable
-decreases-emptiable l = of_tree l.t.now
+decreases-emptiable l = of_tree l.t.bytes.now
 
 abbrev pub decreases-items_emptiable : goal.decreases-items_emptiable
-decreases-items_emptiable l = of_row l.t.now
+decreases-items_emptiable l = of_row l.items.bytes.now
 
-abbrev pub invariant-items_emptiable-loop-left : goal.invariant-items_emptiable-loop-left
-invariant-items_emptiable-loop-left l = Part l.left l.rest l.t × ItemsLeft l.each l.n l.t l.rest l.left
-
-abbrev pub decreases-items_emptiable-loop-left : goal.decreases-items_emptiable-loop-left
-decreases-items_emptiable-loop-left l = l.left
+abbrev pub invariant-items_emptiable-loop-item : goal.invariant-items_emptiable-loop-item
+invariant-items_emptiable-loop-item l =
+    (goal.iterator-items_emptiable-loop-item).can_next l.item-iterator × (goal.iterator-items_emptiable-loop-item).is_finite l.item-iterator × Part l.item-iterator.count l.item-iterator.bytes.now l.items.bytes.now ×
+    ItemsLeft l.each l.items.count l.items.bytes.now l.item-iterator.bytes.now l.item-iterator.count
