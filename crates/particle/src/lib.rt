@@ -53,8 +53,8 @@ pub const CHOICE: u8 = 3;
 
 pub const ALL: u8 = 4;
 
-// A maximum: a number or unbounded.
-#[derive(Clone, Copy)]
+// A maximum: a number or unbounded, which is above every number.
+#[derive(Clone, Copy, PartialEq, Eq, PartialOrd, Ord)]
 pub enum MaxOccurs {
     Bounded(u32),
     Unbounded,
@@ -204,18 +204,7 @@ pub fn range(r: Record) -> Occurs
 pub fn range_ok(d: Occurs, b: Occurs) -> bool
     ensures { result ≡ range_ok d b }
 {
-    if d.min < b.min {
-        return false;
-    }
-    let dmax = d.max;
-    let bmax = b.max;
-    match bmax {
-        MaxOccurs::Unbounded => true,
-        MaxOccurs::Bounded(n) => match dmax {
-            MaxOccurs::Unbounded => false,
-            MaxOccurs::Bounded(m) => m <= n,
-        },
-    }
+    b.min <= d.min && b.max >= d.max
 }
 
 // Whether the maximum of r is 0.
