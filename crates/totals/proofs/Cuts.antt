@@ -1,19 +1,17 @@
--- What the cut is on either side of 4294967295, and the facts by which the code's small functions meet their contracts. Assumes nothing.
-use mathlib.Core.Bool.{Bool, true, false, cond, ◌&&◌}
-use mathlib.Core.Path.{◌≡◌, refl, ap, ap₂, sym, ◌∙◌}
-use Prim.Native.Nat.{ℕ, zero, suc, ◌≤◌, ◌<◌}
+-- What the cut is on either side of 4294967295. Assumes nothing.
+use mathlib.Core.Bool.{cond}
+use mathlib.Core.Path.{◌≡◌}
+use Prim.Native.Nat.{ℕ, ◌≤◌, ◌<◌}
 use native.Mathlib.Decide.{dec_le}
 use native.Mathlib.Omega.{arith}
 use lib.Dec.{leb}
 use borrow.Author.Tests.{le-leb, lt-leb}
-use Rattle.particle.specs.declared.Occurs.{Occurs}
 use Rattle.totals.specs.declared.ranges.TotalMin.{TotalMin}
 use Rattle.totals.specs.declared.ranges.TotalMin.TheVariants.{Exact, TooLarge}
 use Rattle.totals.specs.declared.ranges.TotalMax.{TotalMax}
 use Rattle.totals.specs.declared.ranges.TotalMax.TheVariants as most
 use Rattle.totals.specs.declared.ranges.TotalRange.{TotalRange}
-use Rattle.totals.specs.Total.{largest, cut_min, cut_bounded, total_min_ok, total_max_ok, total_ok}
-use Rattle.totals.specs.Cut.{mul_cut_min, times_open}
+use Rattle.totals.specs.Total.{largest, cut_min, cut_bounded}
 
 -- what holds of both that a cut may choose, each on its side, holds of the one that it chooses
 pub cut_cases : {A : Type 0} (P : A → Type 0) (x y : A) (n : ℕ) → (n ≤ largest → P x) → (largest < n → P y) → P (cond (leb n largest) x y)
@@ -48,40 +46,6 @@ bounded_within n = within (most.Bounded n) most.TooLarge n
 
 pub bounded_above : (n : ℕ) → largest < n → cut_bounded n ≡ most.TooLarge
 bounded_above n = above (most.Bounded n) most.TooLarge n
-
-pub times_some : (n : ℕ) (b : TotalMax) → (n ≡ 0 → ⊥) → b ≡ times_open n b
-times_some zero b z = absurd (z refl)
-times_some (suc n) b z = refl
-
-pub mul_too_large : {b : TotalMin} (a : ℕ) → b ≡ TooLarge → (a ≡ 0 → ⊥) → TooLarge ≡ mul_cut_min a b
-mul_too_large zero e z = absurd (z refl)
-mul_too_large (suc a) e z = rw e
-
-pub min_not_below : {t : TotalMin} (b : ℕ) → t ≡ TooLarge → b ≤ largest → true ≡ total_min_ok t b
-min_not_below b e l = rw e (sym (le-leb b largest l))
-
-pub test_fails : {c : Bool} (t : TotalRange) (b : Occurs) → c ≡ total_min_ok t.min b.min → c ≡ false → false ≡ total_ok t b
-test_fails t b e f = sym (ap (λ (a : Bool). a && total_max_ok t.max b.max) (sym e ∙ f))
-
-pub test_decides : {c r : Bool} (t : TotalRange) (b : Occurs) → c ≡ total_min_ok t.min b.min → c ≡ true → r ≡ total_max_ok t.max b.max → r ≡ total_ok t b
-test_decides t b e f g = g ∙ sym (ap (λ (a : Bool). a && total_max_ok t.max b.max) (sym e ∙ f))
-
--- f of operands of which something is known, the first, the second or both; and of a number that was computed
-module _ {A B C : Type 0} (f : A → B → C) {r : C} where
-  pub of_left : {a x : A} (b : B) → a ≡ x → r ≡ f x b → r ≡ f a b
-  of_left b e p = p ∙ ap (λ (z : A). f z b) (sym e)
-
-  pub of_right : (a : A) {b y : B} → b ≡ y → r ≡ f a y → r ≡ f a b
-  of_right a e p = p ∙ ap (f a) (sym e)
-
-  pub of_both_lem : {a x : A} {b y : B} → a ≡ x → b ≡ y → r ≡ f x y → r ≡ f a b
-  of_both_lem e g p = p ∙ ap₂ f (sym e) (sym g)
-
-pub of_one : {A B : Type 0} (f : A → B) {a x : A} {r : B} → a ≡ x → r ≡ f x → r ≡ f a
-of_one f e p = p ∙ ap f (sym e)
-
-pub computed : {B : Type 0} (f : ℕ → B) {m n : ℕ} {r : B} → m ≡ n → r ≡ f m → r ≡ f n
-computed f e p = p ∙ ap f e
 
 -- a range, number by number
 pub same_range : {m n : TotalMin} {a b : TotalMax} → m ≡ n → a ≡ b → ◌≡◌ {A = TotalRange} (record { min = m; max = a }) (record { min = n; max = b })

@@ -25,13 +25,13 @@ pub fn effective_total_range(t: &[u8], measured: bool) -> TotalRange
     let head = particle::record_at(t);
     let own = particle::range(head);
     if head.kind < particle::SEQUENCE {
-        return ranges::own_range(own);
+        return TotalRange::from(own);
     }
     let n = head.count as usize;
     if head.kind != particle::CHOICE {
-        return ranges::mul_range(own, sum_of(particle::items(t), n, measured));
+        return own * sum_of(particle::items(t), n, measured);
     }
-    ranges::mul_range(own, span_of(particle::items(t), n, measured))
+    own * span_of(particle::items(t), n, measured)
 }
 
 // Whether the total range of the first tree of t, which is measured, is within q. Every total range is within (0, unbounded), so there it isn't asked.
@@ -66,9 +66,9 @@ fn sum_of(t: &[u8], n: usize, measured: bool) -> TotalRange
         to_add -= 1;
         let head = particle::record_at(item);
         if head.kind < particle::SEQUENCE {
-            sum = ranges::add_range(sum, ranges::own_range(particle::range(head)));
+            sum = sum + TotalRange::from(particle::range(head));
         } else {
-            sum = ranges::add_range(sum, effective_total_range(item, measured));
+            sum = sum + effective_total_range(item, measured);
         }
     }
     sum
@@ -94,9 +94,9 @@ fn span_of(t: &[u8], n: usize, measured: bool) -> TotalRange
         others -= 1;
         let head = particle::record_at(item);
         if head.kind < particle::SEQUENCE {
-            span = ranges::span_range(span, ranges::own_range(particle::range(head)));
+            span = span.span(TotalRange::from(particle::range(head)));
         } else {
-            span = ranges::span_range(span, effective_total_range(item, measured));
+            span = span.span(effective_total_range(item, measured));
         }
     }
     span

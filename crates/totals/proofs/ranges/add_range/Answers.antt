@@ -1,6 +1,0 @@
--- `totals::ranges::add_range` meets its contract: the minimum and the maximum are its callees'. Assumes nothing.
-use Rattle.totals.proofs.Cuts.{same_range}
-use Rattle.totals.proofs.ranges.add_range.Goals as goal
-
-pub returns : goal.returns
-returns c = search same_range
