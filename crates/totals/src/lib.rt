@@ -39,13 +39,10 @@ pub fn total_within(t: &[u8], q: Occurs) -> bool
     requires { Run 1 t.now }
     ensures { result ≡ total_ok (total (tree t.now)) q }
 {
-    if q.min == 0 {
-        let qmax = q.max;
-        if let MaxOccurs::Unbounded = qmax {
-            return true;
-        }
+    if q.min == 0 && q.max == MaxOccurs::Unbounded {
+        return true;
     }
-    ranges::total_ok(effective_total_range(t, true), q)
+    total_ok(effective_total_range(t, true), q)
 }
 
 // All and sequence: the sum of the total ranges of the first n trees of t. An element or wildcard counts by its own pair; only a group is asked by a
