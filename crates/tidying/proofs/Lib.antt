@@ -15,7 +15,6 @@ pub mod Fewer
 pub mod Smallest
 pub mod KindTests
 pub mod LaidTrees
-pub mod MoveStep
 pub mod KeepStep
 pub mod CloseStep
 pub mod ItemsStep

@@ -87,12 +87,7 @@ fn remove_record(out: &mut [u8], at: usize, end: usize)
     requires end_in_bounds { end ≤ length out.old }
     ensures { Removed out.old out.new at end }
 {
-    let n = end - at - particle::RECORD_SIZE;
-    let mut i: usize = 0;
-    while i < n {
-        out[at + i] = out[at + particle::RECORD_SIZE + i];
-        i += 1;
-    }
+    out.copy_within(at + particle::RECORD_SIZE..end, at);
 }
 
 // What the group g keeps after `count` items: of the tidied item from `start` to `end`.
