@@ -13,7 +13,6 @@ pub mod TidyTrees
 pub mod Shape
 pub mod Fewer
 pub mod Smallest
-pub mod KindTests
 pub mod LaidTrees
 pub mod KeepStep
 pub mod CloseStep

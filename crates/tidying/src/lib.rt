@@ -36,49 +36,28 @@ struct Kept {
 fn once(h: Record) -> bool
     ensures { result ≡ is_once (range_of h) }
 {
-    if h.min != 1 {
-        return false;
-    }
-    if h.unbounded != 0 {
-        return false;
-    }
-    h.max == 1
+    h.min == 1 && h.unbounded == 0 && h.max == 1
 }
 
 // Whether g is a sequence or choice: the items of others are left as they are.
 fn tidies(g: Record) -> bool
     ensures { result ≡ is_tidied (head_of g) }
 {
-    if g.kind == particle::SEQUENCE {
-        return true;
-    }
-    g.kind == particle::CHOICE
+    matches!(g.kind, particle::SEQUENCE | particle::CHOICE)
 }
 
 // Whether h is a (1,1) item of the group g's own kind.
 fn splices(g: Record, h: Record) -> bool
     ensures { result ≡ splices (head_of g) (head_of h) }
 {
-    if !tidies(g) {
-        return false;
-    }
-    if h.kind != g.kind {
-        return false;
-    }
-    once(h)
+    tidies(g) && h.kind == g.kind && once(h)
 }
 
 // Whether g is a sequence and h a (1,1) choice.
 fn takes_pair(g: Record, h: Record) -> bool
     ensures { result ≡ takes_pair (head_of g) (head_of h) }
 {
-    if g.kind != particle::SEQUENCE {
-        return false;
-    }
-    if h.kind != particle::CHOICE {
-        return false;
-    }
-    once(h)
+    g.kind == particle::SEQUENCE && h.kind == particle::CHOICE && once(h)
 }
 
 // Moves the bytes between the record at `at` and `end` over that record.
