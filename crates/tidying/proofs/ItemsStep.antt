@@ -15,7 +15,6 @@ use Rattle.particle.specs.Rows.{Row, row, run_size, items_part, later_part}
 use Rattle.particle.specs.Encode.{Faithful}
 use Rattle.particle.proofs.Trees.{count_i_le}
 use Rattle.particle.proofs.Laws.{part_is, row_le, row_is, row_one, row_sizes, run_is, run_within, items_row, items_shorter, later_row, later_shorter}
-use Rattle.particle.proofs.Folds.{row_some}
 use Rattle.particle.proofs.EncodeParts.{count_then, items_faithful, later_faithful}
 use Rattle.particle.proofs.RoundTrip.{then_none}
 use Rattle.tidying.specs.declared.Kept.{Kept}
@@ -33,19 +32,20 @@ unfolding ◌then◌
 then_assoc none y z = refl
 then_assoc (item h k r) y z = ap (λ (s : Items). item h k s) (then_assoc r y z)
 
--- the tree t with the record g is to be written from `at` on; `left` of its items are not yet read, from `rest` on, and those that are kept end at `end`
-pub record ItemsLeft (g : Record) (t before : List ℕ) (at : ℕ) (out : List ℕ) (count end read : ℕ) (rest : List ℕ) (left : ℕ) : Type 0 where
-  pub root : g ≡ record_at t
-  pub group : is_tidied (head_of g) ≡ true
-  pub place : Room t 1 before at
+-- the tree t is to be written from `at` on; i of its n items are read, the others are left, from `rest` on
+pub record ItemsLeft (t before : List ℕ) (at : ℕ) (kept : Kept) (out : List ℕ) (read : ℕ) (rest : List ℕ) (n i : ℕ) : Type 0 where
+  pub root : kept.group ≡ record_at t
+  pub there : kept.at ≡ at
+  pub group : is_tidied (head_of kept.group) ≡ true
+  pub place : Room t 1 before kept.at
   pub done : Items
-  pub laid : Laid before out (at + record_size) end done
-  pub counted : count ≡ count_i done
-  pub all : tidy_items (head_of g) (row g.count (items_part t)) ≡ done then tidy_items (head_of g) (row left rest)
-  pub unread : read + record_size * size_i (row left rest) ≡ run_size t
-  pub room : end + record_size * size_i (row left rest) ≤ length out
+  pub laid : Laid before out (kept.at + record_size) kept.end done
+  pub counted : kept.count ≡ count_i done
+  pub all : tidy_items (head_of kept.group) (row kept.group.count (items_part t)) ≡ done then tidy_items (head_of kept.group) (row (n - i) rest)
+  pub unread : read + record_size * size_i (row (n - i) rest) ≡ run_size t
+  pub room : kept.end + record_size * size_i (row (n - i) rest) ≤ length out
   pub same : length out ≡ length before
-  pub trees : Row left rest
+  pub trees : Row (n - i) rest
   pub faithful : Faithful (records rest)
   pub shorter : length rest < length t
 
@@ -55,30 +55,32 @@ read_within {t} w = omega (arith, w.read, run_within t)
 
 -- no item is read
 pub none_read : {g : Record} {t before : List ℕ} {at : ℕ} {s : List ℕ} {b : Bool} → Room t 1 before at → g ≡ record_at t → s ≡ items_part t → b ≡ is_tidied (head_of g) → not b ≡ false
-    → ItemsLeft g t before at before 0 (at + record_size) record_size s g.count
+    → ItemsLeft t before at (record { group = g; at = at; count = 0; end = at + record_size }) before record_size s g.count 0
 unfolding count_i ◌then◌
-none_read {t = t} {before} {at} q e p y y' = rw p (record {
-  root = e;
-  group = sym y ∙ not-false _ y';
-  place = q;
-  done = none;
-  laid = laid_none before (at + record_size);
-  counted = refl;
-  all = refl;
-  unread = omega (arith, run_is t, tree_size q e);
-  room = omega (arith, q.room, tree_size q e);
-  same = refl;
-  trees = rw e (items_row q.trees);
-  faithful = items_faithful q.trees q.faithful;
-  shorter = items_shorter q.trees;
-})
+none_read {g} {t} {before} {at} q e p y y' =
+    let z : g.count - 0 ≡ g.count = omega arith in
+    rw p (record {
+      root = e;
+      there = refl;
+      group = sym y ∙ not-false _ y';
+      place = q;
+      done = none;
+      laid = laid_none before (at + record_size);
+      counted = refl;
+      all = rw z;
+      unread = rw z (omega (arith, run_is t, tree_size q e));
+      room = rw z (omega (arith, q.room, tree_size q e));
+      same = refl;
+      trees = rw (z, e) (items_row q.trees);
+      faithful = items_faithful q.trees q.faithful;
+      shorter = items_shorter q.trees;
+    })
 
-module _ {g : Record} {t before : List ℕ} {at : ℕ} {out : List ℕ} {count end read : ℕ} {rest : List ℕ} {left : ℕ}
-    (a : ItemsLeft g t before at out count end read rest left) where
+module _ {t before : List ℕ} {at : ℕ} {kept : Kept} {out : List ℕ} {read : ℕ} {rest : List ℕ} {n i : ℕ} (a : ItemsLeft t before at kept out read rest n i) where
   out_small : length out ≤ record_size * max_records
   out_small = omega (arith, a.place.small, a.same)
 
-  pub kept_stand : KeptStand g (record { count = count; end = end }) out at
+  pub kept_stand : KeptStand kept out
   kept_stand =
       let l = count_i_le a.done in
       record {
@@ -89,24 +91,28 @@ module _ {g : Record} {t before : List ℕ} {at : ℕ} {out : List ℕ} {count e
       }
 
   -- one item more
-  module _ (some : 0 < left) where
-    more : Row (suc (left - 1)) rest
-    more = row_some a.trees (λ z. omega arith)
+  module _ (some : i < n) where
+    more : Row (suc (n - (i + 1))) rest
+    more =
+        let z : n - i ≡ suc (n - (i + 1)) = omega arith in
+        rw z at a.trees
 
-    split : row left rest ≡ item (tree rest).head (tree rest).items (row (left - 1) (later_part rest))
+    split : row (n - i) rest ≡ item (tree rest).head (tree rest).items (row (n - (i + 1)) (later_part rest))
     split =
-        let z : left ≡ suc (left - 1) = omega arith in
-        ap (λ (k : ℕ). row k rest) z ∙ row_is more
+        let z : n - i ≡ suc (n - (i + 1)) = omega arith in
+        rw z (row_is more)
 
-    sizes : size_i (row left rest) ≡ size_i (row 1 rest) + size_i (row (left - 1) (later_part rest))
-    sizes = row_sizes a.trees some
+    sizes : size_i (row (n - i) rest) ≡ size_i (row 1 rest) + size_i (row (n - (i + 1)) (later_part rest))
+    sizes =
+        let z : n - i - 1 ≡ n - (i + 1) = omega arith in
+        rw z at (row_sizes a.trees (omega arith))
 
-    pub item_room : Room rest 1 out end
+    pub item_room : Room rest 1 out kept.end
     item_room = record { trees = row_le (omega arith) more; faithful = a.faithful; room = omega (arith, a.room, sizes); small = out_small }
 
     -- the item is written
-    module _ {middle : List ℕ} {x : Written} (w : Writes rest out middle end (tidied rest) x) where
-      pub item_stands : ItemStands middle end x.end count
+    module _ {middle : List ℕ} {x : Written} (w : Writes rest out middle kept.end (tidied rest) x) where
+      pub item_stands : ItemStands kept middle x.end
       item_stands = record { long = laid_long kept_stand.within w.laid; within = laid_within kept_stand.within w.laid; few = kept_stand.few }
 
       fewer : size_i (tidied rest) ≤ size_i (row 1 rest)
@@ -115,25 +121,28 @@ module _ {g : Record} {t before : List ℕ} {at : ℕ} {out : List ℕ} {count e
       pub read_fits : Fits w64 (read + x.read)
       read_fits = omega (arith, w.read, a.unread, sizes, run_is rest, run_is t, a.place.room, a.place.small)
 
-      pub item_read : {after : List ℕ} {k : Kept} {next : List ℕ} → length middle ≡ length out → length after ≡ length middle → KeepsAfter g middle after end x.end count k
+      pub item_read : {after : List ℕ} {k : Kept} {next : List ℕ} → length middle ≡ length out → length after ≡ length middle → KeepsAfter kept middle x.end k after
           → next ≡ take (length rest - x.read) (drop x.read rest)
-          → ItemsLeft g t before at after k.count k.end (read + x.read) next (left - 1)
+          → ItemsLeft t before at k after (read + x.read) next n (i + 1)
       unfolding tidy_items tidy
-      item_read {after} {k} {next} same same' f n =
+      item_read {after} {k} {next} same same' f e =
+          let g = head_of kept.group in
+          let y = keep g (tidy (tree rest)) none in
+          let later = tidy_items g (row (n - (i + 1)) (later_part rest)) in
           let b = f.keeps out (tidy (tree rest)) kept_stand.within w.laid in
-          let y = keep (head_of g) (tidy (tree rest)) none in
-          let p : next ≡ later_part rest = n ∙ (part_is rest x.read ∙ ap (λ (i : ℕ). drop i rest) w.read) in
-          let m : keep (head_of g) (tidy (tree rest)) (tidy_items (head_of g) (row (left - 1) (later_part rest))) ≡ y then tidy_items (head_of g) (row (left - 1) (later_part rest)) = keep_then (head_of g) (tidy (tree rest)) _ in
+          let p : next ≡ later_part rest = e ∙ (part_is rest x.read ∙ ap (λ (m : ℕ). drop m rest) w.read) in
+          let m : keep g (tidy (tree rest)) later ≡ y then later = keep_then g (tidy (tree rest)) later in
           rw p (record {
-            root = a.root;
-            group = a.group;
-            place = a.place;
+            root = f.group ∙ a.root;
+            there = f.at ∙ a.there;
+            group = rw f.group a.group;
+            place = rw f.at a.place;
             done = a.done then y;
-            laid = laid_then a.laid b.0;
+            laid = rw f.at (laid_then a.laid b.0);
             counted = omega (arith, a.counted, b.1, count_then a.done y);
-            all = a.all ∙ (rw split (ap (λ (z : Items). a.done then z) m) ∙ sym (then_assoc a.done y (tidy_items (head_of g) (row (left - 1) (later_part rest)))));
+            all = rw f.group (a.all ∙ (rw split (ap (λ (z : Items). a.done then z) m) ∙ sym (then_assoc a.done y later)));
             unread = omega (arith, w.read, a.unread, sizes, run_is rest);
-            room = omega (arith, a.room, sizes, b.0.size, keep_smaller (head_of g) (tidy (tree rest)), fewer);
+            room = omega (arith, a.room, sizes, b.0.size, keep_smaller g (tidy (tree rest)), fewer);
             same = same' ∙ (same ∙ a.same);
             trees = later_row more;
             faithful = later_faithful rest a.faithful;
@@ -141,11 +150,11 @@ module _ {g : Record} {t before : List ℕ} {at : ℕ} {out : List ℕ} {count e
           })
 
   -- every item is read
-  module _ (none_left : left ≤ 0) where
-    last : row left rest ≡ none
+  module _ (none_left : n ≤ i) where
+    last : row (n - i) rest ≡ none
     unfolding take_i
     last =
-        let z : left ≡ 0 = omega arith in
+        let z : n - i ≡ 0 = omega arith in
         rw z
 
     pub all_read : read ≡ run_size t
@@ -154,9 +163,9 @@ module _ {g : Record} {t before : List ℕ} {at : ℕ} {out : List ℕ} {count e
         let u : read + record_size * size_i none ≡ run_size t = rw last at a.unread in
         omega arith
 
-    pub closes : {after : List ℕ} {r : ℕ} → Closes g (record { count = count; end = end }) out after at r → Laid before after at r (tidied t)
+    pub closes : {after : List ℕ} {r : ℕ} → Closes kept out after r → Laid before after at r (tidied t)
     unfolding tidy_items
     closes c =
-        let d : tidy_items (head_of g) (row g.count (items_part t)) ≡ a.done = a.all ∙ (rw last (then_none a.done)) in
-        let x : tidied t ≡ single (closed (head_of g) a.done) = tidied_group a.place a.root a.group ∙ ap (λ (z : Items). single (closed (head_of g) z)) d in
-        rw x (c before a.done (record_fits a.place a.root) a.counted a.laid)
+        let d : tidy_items (head_of kept.group) (row kept.group.count (items_part t)) ≡ a.done = a.all ∙ (rw last (then_none a.done)) in
+        let x : tidied t ≡ single (closed (head_of kept.group) a.done) = tidied_group a.place a.root a.group ∙ ap (λ (z : Items). single (closed (head_of kept.group) z)) d in
+        rw (x, ← a.there) (c before a.done (record_fits a.place a.root) a.counted a.laid)

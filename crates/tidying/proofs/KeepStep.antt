@@ -14,6 +14,7 @@ use Rattle.particle.specs.Encode.{record_of}
 use Rattle.particle.proofs.Laws.{part_is}
 use Rattle.particle.proofs.Heads.{pair_record}
 use Rattle.particle.proofs.RoundTrip.{head_record, then_none}
+use Rattle.tidying.specs.declared.Kept.{Kept}
 use Rattle.tidying.specs.Tidy.{splices, put, keep}
 use Rattle.tidying.specs.Laid.{Laid, Removed, KeepsAfter}
 use Rattle.tidying.proofs.LaidTrees.{laid_none, laid_over, laid_within, laid_before, laid_record, laid_long, laid_open, laid_moved}
@@ -29,34 +30,47 @@ keep_then g x y = go (is_zero (pair_of x.head).max) (splices g x.head)
     go false true = rw (then_none x.items)
     go false false = refl
 
--- a tidied item from `start` to `end`, whose record is h; z: whether its maximum is 0, s: whether g opens it
-module _ {h : Record} {out : List ℕ} {start : ℕ} (e : h ≡ record_at (take (length out - start) (drop start out))) where
-  module _ {before : List ℕ} {end : ℕ} {x : Particle} (l : start ≤ length before) (a : Laid before out start end (single x)) where
-    h_is : h ≡ record_of x.head (count_i x.items)
-    h_is = e ∙ (ap record_at (part_is out start) ∙ laid_record l a)
+-- a tidied item from `start` to `end`, whose record is h
+module _ {h : Record} {out : List ℕ} {start : ℕ} (e : h ≡ record_at (take (length out - start) (drop start out))) {before : List ℕ} {end : ℕ} {x : Particle}
+    (l : start ≤ length before) (a : Laid before out start end (single x)) where
+  h_is : h ≡ record_of x.head (count_i x.items)
+  h_is = e ∙ (ap record_at (part_is out start) ∙ laid_record l a)
 
-    head_is : head_of h ≡ x.head
-    head_is = ap head_of h_is ∙ head_record x.head (count_i x.items)
+  head_is : head_of h ≡ x.head
+  head_is = ap head_of h_is ∙ head_record x.head (count_i x.items)
 
-    zero_is : is_zero (pair_of x.head).max ≡ is_zero (range_of h).max
-    zero_is = ap (λ (p : Occurs). is_zero p.max) (ap pair_of (sym head_is) ∙ pair_record h)
+  zero_is : is_zero (pair_of x.head).max ≡ is_zero (range_of h).max
+  zero_is = ap (λ (p : Occurs). is_zero p.max) (ap pair_of (sym head_is) ∙ pair_record h)
 
-    splices_is : (g : Head) → splices g x.head ≡ splices g (head_of h)
-    splices_is g = ap (splices g) (sym head_is)
+  splices_is : (g : Head) → splices g x.head ≡ splices g (head_of h)
+  splices_is g = ap (splices g) (sym head_is)
 
-  pub dropped : {g : Record} {end count : ℕ} {z : Bool} → z ≡ is_zero (range_of h).max → z ≡ true → KeepsAfter g out out start end count (record { count = count; end = start })
+-- such an item after those that a group keeps; z: whether its maximum is 0, s: whether the group opens it
+module _ (kept : Kept) {h : Record} {out : List ℕ} (e : h ≡ record_at (take (length out - kept.end) (drop kept.end out))) {end : ℕ} where
+  pub dropped : {z : Bool} → z ≡ is_zero (range_of h).max → z ≡ true → KeepsAfter kept out end kept out
   unfolding count_i
-  dropped never y = record { keeps = λ before x l a. rw (zero_is l a ∙ (sym never ∙ y), keep) (laid_over (laid_before l a) (laid_none out start), omega arith) }
+  dropped never y = record {
+    group = refl;
+    at = refl;
+    keeps = λ before x l a. rw (zero_is e l a ∙ (sym never ∙ y), keep) (laid_over (laid_before l a) (laid_none out kept.end), omega arith);
+  }
 
-  module _ {g : Record} {z s : Bool} (never : z ≡ is_zero (range_of h).max) (y : z ≡ false) (own : s ≡ splices (head_of g) (head_of h)) {end count : ℕ} where
-    pub opened : {after : List ℕ} → s ≡ true → Removed out after start end → KeepsAfter g out after start end count (record { count = count + h.count; end = end - record_size })
-    opened o r = record {
+  module _ {z s : Bool} (never : z ≡ is_zero (range_of h).max) (y : z ≡ false) (own : s ≡ splices (head_of kept.group) (head_of h)) where
+    pub opened : {after : List ℕ} {r : ℕ} → s ≡ true → Removed out after kept.end end → r ≡ end - record_size → KeepsAfter kept out end (record kept { count = kept.count + h.count; end = r }) after
+    opened o r q = rw q (record {
+      group = refl;
+      at = refl;
       keeps = λ before x l a.
-          let n : h.count ≡ count_i x.items = ap (λ (q : Record). q.count) (h_is l a) in
-          let w : start + record_size ≤ length out = omega (arith, laid_long l a, laid_within l a) in
-          rw (zero_is l a ∙ (sym never ∙ y), keep, splices_is l a (head_of g) ∙ (sym own ∙ o), put, then_none x.items) (laid_over (laid_before l a) (laid_moved start w (laid_open l a) r), omega (arith, n));
-    }
+          let n : h.count ≡ count_i x.items = ap (λ (q : Record). q.count) (h_is e l a) in
+          let w : kept.end + record_size ≤ length out = omega (arith, laid_long l a, laid_within l a) in
+          rw (zero_is e l a ∙ (sym never ∙ y), keep, splices_is e l a (head_of kept.group) ∙ (sym own ∙ o), put, then_none x.items)
+          (laid_over (laid_before l a) (laid_moved kept.end w (laid_open l a) r), omega (arith, n));
+    })
 
-    pub stays : s ≡ false → KeepsAfter g out out start end count (record { count = count + 1; end = end })
+    pub stays : s ≡ false → KeepsAfter kept out end (record kept { count = kept.count + 1; end = end }) out
     unfolding count_i
-    stays o = record { keeps = λ before x l a. rw (zero_is l a ∙ (sym never ∙ y), keep, splices_is l a (head_of g) ∙ (sym own ∙ o), put) (a, omega arith) }
+    stays o = record {
+      group = refl;
+      at = refl;
+      keeps = λ before x l a. rw (zero_is e l a ∙ (sym never ∙ y), keep, splices_is e l a (head_of kept.group) ∙ (sym own ∙ o), put) (a, omega arith);
+    }

@@ -1,6 +1,5 @@
 -- What the functions that tidy ask and leave: trees written one after another into a buffer. Assumes nothing: these are definitions.
 use Rattle.std.specs.Prelude.{◌≡◌, List, ◌++◌, ℕ, ◌+◌, ◌*◌, ◌-◌, ◌≤◌, length, take, drop}
-use Rattle.particle.specs.declared.Record.{Record}
 use Rattle.particle.specs.Record.{record_size, max_records}
 use Rattle.particle.specs.Tree.{Items, none, Particle, single, count_i, size_i, head_of, records, tree}
 use Rattle.particle.specs.Rows.{Row, row, run_size}
@@ -29,29 +28,31 @@ pub record Laid (before out : List ℕ) (at end : ℕ) (x : Items) : Type 0 wher
 abbrev pub Removed : (out after : List ℕ) (at end : ℕ) → Type 0
 Removed out after at end = take (end - record_size) after ≡ take at out ++ take (end - at - record_size) (drop (at + record_size) out)
 
--- after `count` items that are kept, one stands in out from `start` to `end`
-pub record ItemStands (out : List ℕ) (start end count : ℕ) : Type 0 where
-  pub long : start + record_size ≤ end
+-- one item more than those that are kept stands in out, from where these end to `end`
+pub record ItemStands (kept : Kept) (out : List ℕ) (end : ℕ) : Type 0 where
+  pub long : kept.end + record_size ≤ end
   pub within : end ≤ length out
-  pub few : count ≤ max_records
+  pub few : kept.count ≤ max_records
 
--- r is what the group g keeps: `count` items, and what it keeps of the item from `start` to `end`
-pub record KeepsAfter (g : Record) (out after : List ℕ) (start end count : ℕ) (r : Kept) : Type 0 where
-  pub keeps : (before : List ℕ) (x : Particle) → start ≤ length before → Laid before out start end (single x)
-      → Laid before after start r.end (keep (head_of g) x none) × (r.count ≡ count + count_i (keep (head_of g) x none))
+-- k is what the group keeps: the items that it kept, and what it keeps of the item from where these end to `end`
+pub record KeepsAfter (kept : Kept) (out : List ℕ) (end : ℕ) (k : Kept) (after : List ℕ) : Type 0 where
+  pub group : k.group ≡ kept.group
+  pub at : k.at ≡ kept.at
+  pub keeps : (before : List ℕ) (x : Particle) → kept.end ≤ length before → Laid before out kept.end end (single x)
+      → Laid before after kept.end k.end (keep (head_of kept.group) x none) × (k.count ≡ kept.count + count_i (keep (head_of kept.group) x none))
 
--- the items that g keeps stand in out after a place at `at` for g's record
-pub record KeptStand (g : Record) (kept : Kept) (out : List ℕ) (at : ℕ) : Type 0 where
-  pub faithful : record_of (head_of g) g.count ≡ g
-  pub long : at + record_size + record_size * kept.count ≤ kept.end
+-- the items that the group keeps stand in out after the place for its record
+pub record KeptStand (kept : Kept) (out : List ℕ) : Type 0 where
+  pub faithful : record_of (head_of kept.group) kept.group.count ≡ kept.group
+  pub long : kept.at + record_size + record_size * kept.count ≤ kept.end
   pub within : kept.end ≤ length out
   pub few : kept.count ≤ max_records
 
--- over the items that it keeps, the group g is closed at `at`: what is left ends at r
-abbrev pub Closes : (g : Record) (kept : Kept) (out after : List ℕ) (at r : ℕ) → Type 0
-Closes g kept out after at r =
-    (before : List ℕ) (x : Items) → at + record_size ≤ length before → kept.count ≡ count_i x → Laid before out (at + record_size) kept.end x
-    → Laid before after at r (single (closed (head_of g) x))
+-- over the items that it keeps, the group is closed: what is left ends at r
+abbrev pub Closes : (kept : Kept) (out after : List ℕ) (r : ℕ) → Type 0
+Closes kept out after r =
+    (before : List ℕ) (x : Items) → kept.at + record_size ≤ length before → kept.count ≡ count_i x → Laid before out (kept.at + record_size) kept.end x
+    → Laid before after kept.at r (single (closed (head_of kept.group) x))
 
 -- the first tree of t was read, and x written from `at` on
 pub record Writes (t before out : List ℕ) (at : ℕ) (x : Items) (r : Written) : Type 0 where

@@ -4,7 +4,7 @@
 // written over; where a record goes and its items stay, they move up over it.
 #![tactic(auto)]
 
-ghost use Rattle.std.specs.Prelude.{◌≡◌, ◌++◌, ◌+◌, ◌*◌, ◌≤◌, length, drop};
+ghost use Rattle.std.specs.Prelude.{◌≡◌, ◌++◌, ◌+◌, ◌-◌, ◌*◌, ◌≤◌, length, drop};
 ghost use Rattle.particle.specs.Occurs.{is_once};
 ghost use Rattle.particle.specs.Record.{record_size, max_records, record_at, range_of};
 ghost use Rattle.particle.specs.Tree.{size_i, head_of, records};
@@ -25,9 +25,12 @@ struct Written {
     end: usize,
 }
 
-// The items that a group keeps: how many, and where their records end.
+// A group whose items are tidied: its record and the place for it in the buffer; how many items it keeps, and where their records end,
+// which stand after that place.
 #[derive(Clone, Copy)]
 struct Kept {
+    group: Record,
+    at: usize,
     count: usize,
     end: usize,
 }
@@ -60,74 +63,70 @@ fn takes_pair(g: Record, h: Record) -> bool
     g.kind == particle::SEQUENCE && h.kind == particle::CHOICE && once(h)
 }
 
-// Moves the bytes between the record at `at` and `end` over that record.
-fn remove_record(out: &mut [u8], at: usize, end: usize)
+// Moves the bytes between the record at `at` and `end` over that record: answers where they end.
+fn remove_record(out: &mut [u8], at: usize, end: usize) -> usize
     requires record_size_bound { at + record_size ≤ end }
     requires end_in_bounds { end ≤ length out.old }
-    ensures { Removed out.old out.new at end }
+    ensures moved { Removed out.old out.new at end }
+    ensures value { result ≡ end - record_size }
 {
     out.copy_within(at + particle::RECORD_SIZE..end, at);
+    end - particle::RECORD_SIZE
 }
 
-// What the group g keeps after `count` items: of the tidied item from `start` to `end`.
-fn keep(g: Record, out: &mut [u8], start: usize, end: usize, count: usize) -> Kept
-    requires { ItemStands out.old start end count }
-    ensures { KeepsAfter g out.old out.new start end count result }
-{
-    let h = particle::record_at(&out[start..]);
-    if particle::never(h) {
-        return Kept {
-            count: count,
-            end: start,
-        };
+impl Kept {
+    // Of a tidied item, which stands in out from where those kept end to `end`, what the group keeps is kept too.
+    fn keep(&mut self, out: &mut [u8], end: usize)
+        requires { ItemStands self.old out.old end }
+        ensures { KeepsAfter self.old out.old end self.new out.new }
+    {
+        let start = self.end;
+        let h = particle::record_at(&out[start..]);
+        if particle::never(h) {
+            return;
+        }
+        if splices(self.group, h) {
+            self.count += h.count as usize;
+            self.end = remove_record(out, start, end);
+        } else {
+            self.count += 1;
+            self.end = end;
+        }
     }
-    if splices(g, h) {
-        remove_record(out, start, end);
-        return Kept {
-            count: count + (h.count as usize),
-            end: end - particle::RECORD_SIZE,
-        };
-    }
-    Kept {
-        count: count + 1,
-        end: end,
-    }
-}
 
-// The group g at `at`, closed over the items that it keeps, which stand after the place of its record: answers where it ends.
-fn close(g: Record, kept: Kept, out: &mut [u8], at: usize) -> usize
-    requires { KeptStand g kept out.old at }
-    ensures { Closes g kept out.old out.new at result }
-{
-    let end = kept.end;
-    if kept.count == 1 {
-        if once(g) {
-            remove_record(out, at, end);
-            return end - particle::RECORD_SIZE;
+    // The group, closed over the items that it keeps: answers where it ends.
+    fn close(self, out: &mut [u8]) -> usize
+        requires { KeptStand self out.old }
+        ensures { Closes self out.old out.new result }
+    {
+        if self.count == 1 {
+            if once(self.group) {
+                return remove_record(out, self.at, self.end);
+            }
+            let first = self.at + particle::RECORD_SIZE;
+            let h = particle::record_at(&out[first..]);
+            if takes_pair(self.group, h) {
+                let choice = Record {
+                    unbounded: self.group.unbounded,
+                    min: self.group.min,
+                    max: self.group.max,
+                    ..h
+                };
+                particle::write_record(out, first, choice);
+                return remove_record(out, self.at, self.end);
+            }
         }
-        let first = at + particle::RECORD_SIZE;
-        let h = particle::record_at(&out[first..]);
-        if takes_pair(g, h) {
-            let choice = Record {
-                unbounded: g.unbounded,
-                min: g.min,
-                max: g.max,
-                ..h
-            };
-            particle::write_record(out, first, choice);
-            remove_record(out, at, end);
-            return end - particle::RECORD_SIZE;
-        }
+        let group = Record {
+            count: self.count as u16,
+            ..self.group
+        };
+        particle::write_record(out, self.at, group);
+        self.end
     }
-    let group = Record {
-        count: kept.count as u16,
-        ..g
-    };
-    particle::write_record(out, at, group);
-    end
 }
 
 // The first tree of t as it is, into out from `at` on.
+// `Room` stays a clause: a struct of t, out and `at` would be made anew, and out lent again, for each item.
 fn copy_tree(t: &[u8], out: &mut [u8], at: usize) -> Written
     requires { Room t.now 1 out.old at }
     ensures { Writes t.now out.old out.new at (row 1 t.now) result }
@@ -135,7 +134,7 @@ fn copy_tree(t: &[u8], out: &mut [u8], at: usize) -> Written
     let n = particle::run_len(t);
     let end = at + n;
     out[at..end].copy_from_slice(&t[..n]);
-    Written { read: n, end: end }
+    Written { read: n, end }
 }
 
 // The first tree of t, tidied, into out from `at` on. A tree without items is tidy.
@@ -165,29 +164,23 @@ fn tidy_items(g: Record, t: &[u8], out: &mut [u8], at: usize) -> Written
     if !tidies(g) {
         return copy_tree(t, out, at);
     }
-    let mut count: usize = 0;
-    let mut end = at + particle::RECORD_SIZE;
+    let mut kept = Kept {
+        group: g,
+        at,
+        count: 0,
+        end: at + particle::RECORD_SIZE,
+    };
     let mut read = particle::RECORD_SIZE;
     let mut rest = particle::items(t);
-    let mut left = g.count as usize;
-    while 0 < left {
-        let x = tidy_tree(rest, out, end);
-        let kept = keep(g, out, end, x.end, count);
-        count = kept.count;
-        end = kept.end;
-        let n = x.read;
-        let next = &rest[n..];
-        rest = next;
-        read += n;
-        left -= 1;
+    for _ in 0..g.count {
+        let x = tidy_tree(rest, out, kept.end);
+        kept.keep(out, x.end);
+        rest = &rest[x.read..];
+        read += x.read;
     }
-    let kept = Kept {
-        count: count,
-        end: end,
-    };
     Written {
-        read: read,
-        end: close(g, kept, out, at),
+        read,
+        end: kept.close(out),
     }
 }
 
@@ -199,8 +192,7 @@ pub fn normalize_in(t: &[u8], out: &mut [u8]) -> usize
     requires out_len_bound { length out.old ≤ record_size * max_records }
     ensures { StartsWith t.now out.new result }
 {
-    let x = tidy_tree(t, out, 0);
-    x.end
+    tidy_tree(t, out, 0).end
 }
 
 // The tree of t, tidied, at the start of out: answers its record count. Every later byte of out keeps its value.

@@ -10,8 +10,5 @@ decreases-tidy_items l = 2 * length l.t.now
 abbrev pub decreases-tidy_tree : goal.decreases-tidy_tree
 decreases-tidy_tree l = 2 * length l.t.now + 1
 
-abbrev pub invariant-tidy_items-loop-left : goal.invariant-tidy_items-loop-left
-invariant-tidy_items-loop-left l = ItemsLeft l.g l.t l.initial.out l.at l.out l.count l.end l.read l.rest l.left
-
-abbrev pub decreases-tidy_items-loop-left : goal.decreases-tidy_items-loop-left
-decreases-tidy_items-loop-left l = l.left
+abbrev pub invariant-tidy_items-loop : goal.invariant-tidy_items-loop
+invariant-tidy_items-loop l = ItemsLeft l.t l.initial.out l.at l.kept l.out l.read l.rest l.end l.counter

@@ -1,6 +1,6 @@
--- `tidying::keep` meets its contract. Assumes nothing.
+-- `tidying::Kept::keep` meets its contract. Assumes nothing.
 use Rattle.tidying.proofs.KeepStep.{dropped, opened, stays}
-use Rattle.tidying.proofs.keep.Goals as goal
+use Rattle.tidying.proofs.Kept.keep.Goals as goal
 
 pub returns-then-never : goal.returns-then-never
 returns-then-never c = search dropped
@@ -8,5 +8,5 @@ returns-then-never c = search dropped
 pub returns-then-splices : goal.returns-then-splices
 returns-then-splices c = search opened
 
-pub returns : goal.returns
-returns c = search stays
+pub returns-else-splices : goal.returns-else-splices
+returns-else-splices c = search stays
