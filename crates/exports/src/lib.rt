@@ -37,7 +37,7 @@ pub fn marker_mark(s: &[u8]) -> u32
         MarkAnswer::Passes => 0,
         MarkAnswer::Undecided => 1,
         MarkAnswer::Fails(r) => verdicts::reason_number(r),
-        MarkAnswer::Refused(r) => REFUSED + intake::number(r),
+        MarkAnswer::Refused(r) => REFUSED + u32::from(r),
     }
 }
 
@@ -69,7 +69,7 @@ pub fn marker_total_min(t: &[u8]) -> u64
             let min = o.min;
             total_min_number(min)
         }
-        TotalAnswer::Refused(r) => BEYOND + (intake::number(r) as u64),
+        TotalAnswer::Refused(r) => BEYOND + u64::from(u32::from(r)),
     }
 }
 
@@ -83,7 +83,7 @@ pub fn marker_total_max(t: &[u8]) -> u64
             let max = o.max;
             total_max_number(max)
         }
-        TotalAnswer::Refused(r) => BEYOND + (intake::number(r) as u64),
+        TotalAnswer::Refused(r) => BEYOND + u64::from(u32::from(r)),
     }
 }
 
@@ -94,7 +94,7 @@ pub fn marker_emptiable(t: &[u8]) -> u32
     match entries::emptiable(t) {
         EmptiableAnswer::Yes => 1,
         EmptiableAnswer::No => 0,
-        EmptiableAnswer::Refused(r) => intake::number(r),
+        EmptiableAnswer::Refused(r) => u32::from(r),
     }
 }
 
@@ -106,7 +106,7 @@ pub fn marker_tidy(t: &[u8], out: &mut [u8]) -> u64
 {
     match entries::tidy(t, out) {
         TidiedAnswer::Records(n) => n as u64,
-        TidiedAnswer::Refused(r) => BEYOND + (intake::number(r) as u64),
+        TidiedAnswer::Refused(r) => BEYOND + u64::from(u32::from(r)),
     }
 }
 
@@ -119,7 +119,7 @@ pub fn marker_effective_particle(chain: &[u8], out: &mut [u8]) -> u64
     match chain::effective_particle(chain, out) {
         JoinedAnswer::Records(n) => n as u64,
         JoinedAnswer::NoContent => 0,
-        JoinedAnswer::Refused(r) => BEYOND + (intake::number(r) as u64),
+        JoinedAnswer::Refused(r) => BEYOND + u64::from(u32::from(r)),
     }
 }
 
@@ -129,7 +129,7 @@ fn verdict_number(a: TypeAnswer) -> u32
     match a {
         TypeAnswer::Ok => 0,
         TypeAnswer::NotDerived => types::NOT_DERIVED as u32,
-        TypeAnswer::Refused(r) => REFUSED + intake::number(r),
+        TypeAnswer::Refused(r) => REFUSED + u32::from(r),
     }
 }
 
@@ -138,7 +138,7 @@ fn filled_number(a: FilledAnswer) -> u32
 {
     match a {
         FilledAnswer::Filled => 0,
-        FilledAnswer::Refused(r) => REFUSED + intake::number(r),
+        FilledAnswer::Refused(r) => REFUSED + u32::from(r),
     }
 }
 

@@ -1,4 +1,6 @@
 -- What is accepted is the encoding of a tree that fits. Assumes nothing.
+use Rattle.std.specs.Prelude.{Result, Ok, Err}
+use Rattle.intake.specs.declared.Fault.{Fault}
 use mathlib.Core.Path.{◌≡◌, refl, ap, sym, ◌∙◌}
 use mathlib.Core.Bool.{false}
 use mathlib.Core.List.{List, [], ◌∷◌}
@@ -15,8 +17,6 @@ use Rattle.particle.proofs.Trees.{size_i_build}
 use Rattle.particle.proofs.RoundTrip.{encode_decode}
 use Rattle.particle.proofs.Widths.{Widths, widths}
 use Rattle.particle.proofs.Build.{build_nil, build_cons, decode_is}
-use Rattle.intake.specs.declared.Checked.{Checked}
-use Rattle.intake.specs.declared.Checked.TheVariants.{Accepted, Refused}
 use Rattle.intake.specs.Faults.{Known, fault_of}
 use Rattle.intake.specs.Scan.{Level, level, or_else, scan, refusal_in}
 use Rattle.intake.specs.Accepted.{is_all, TreesFit, TreeFits}
@@ -26,9 +26,9 @@ use Rattle.intake.proofs.Heads as H
 use Rattle.intake.proofs.Heads.{all_kind, clean_fits}
 
 -- both are accepted
-pub or_else_lem : (c d : Checked) → or_else c d ≡ Accepted → (c ≡ Accepted) × (d ≡ Accepted)
-or_else_lem Accepted d e = (refl, e)
-or_else_lem (Refused f) d e = absurd (refused e)
+pub or_else_lem : (c d : Result (Unit {0}) Fault) → or_else c d ≡ Ok tt → (c ≡ Ok tt) × (d ≡ Ok tt)
+or_else_lem (Ok _) d e = (refl, e)
+or_else_lem (Err f) d e = absurd (refused e)
 
 -- W says that the records' fields have their widths
 module _ (known : Known) (W : Type 0) where
@@ -48,18 +48,18 @@ module _ (known : Known) (W : Type 0) where
     complete : Complete rs
     faithful : Faithful rs
 
-  at_level : (rs : List Record) (l : Level) (ls : List Level) {n : ℕ} → l.left ≡ n → scan known rs (l ∷ ls) ≡ Accepted → scan known rs (level n l.all ∷ ls) ≡ Accepted
+  at_level : (rs : List Record) (l : Level) (ls : List Level) {n : ℕ} → l.left ≡ n → scan known rs (l ∷ ls) ≡ Ok tt → scan known rs (level n l.all ∷ ls) ≡ Ok tt
   at_level rs l ls z e = ap (λ (k : ℕ). scan known rs (level k l.all ∷ ls)) (sym z) ∙ e
 
   -- where the innermost group awaits nothing more
-  idle : (rs : List Record) (l : Level) (ls : List Level) → l.left ≡ 0 → scan known rs (l ∷ ls) ≡ Accepted → (scan known rs ls ≡ Accepted → Read rs ls) → Read rs (l ∷ ls)
+  idle : (rs : List Record) (l : Level) (ls : List Level) → l.left ≡ 0 → scan known rs (l ∷ ls) ≡ Ok tt → (scan known rs ls ≡ Ok tt → Read rs ls) → Read rs (l ∷ ls)
   unfolding Awaited take_i drop_i TreesFit
   idle rs l ls z e next =
       let o = next (sym (nothing_awaited known rs l.all ls) ∙ at_level rs l ls z e) in
       record { trees = record { enough = omega arith; fit = λ w. rw z tt; later = rw z o.trees }; complete = o.complete; faithful = o.faithful }
 
   -- where it awaits m + 1 items, of which the record r is the first
-  busy : (r : Record) (rs : List Record) (l : Level) (ls : List Level) {m : ℕ} → l.left ≡ suc m → fault_of known r (suc (length ls)) l.all ≡ Accepted → (W → Widths (r ∷ rs)) → Read rs (level r.count (eqb r.kind 4) ∷ level m l.all ∷ ls) → Read (r ∷ rs) (l ∷ ls)
+  busy : (r : Record) (rs : List Record) (l : Level) (ls : List Level) {m : ℕ} → l.left ≡ suc m → fault_of known r (suc (length ls)) l.all ≡ Ok tt → (W → Widths (r ∷ rs)) → Read rs (level r.count (eqb r.kind 4) ∷ level m l.all ∷ ls) → Read (r ∷ rs) (l ∷ ls)
   unfolding Awaited Complete Faithful Widths take_i drop_i count_i TreesFit
   busy r rs l ls z q w o =
       let own = H.faithful known r (suc (length ls)) l.all q in
@@ -78,27 +78,27 @@ module _ (known : Known) (W : Type 0) where
       }
 
   -- after the last record
-  last : (st : List Level) → scan known [] st ≡ Accepted → Read [] st
+  last : (st : List Level) → scan known [] st ≡ Ok tt → Read [] st
   unfolding Awaited Complete Faithful
   last [] e = record { trees = build_nil; complete = tt; faithful = tt }
   last (l ∷ ls) e = go l.left refl (last ls)
     where
-      go : (n : ℕ) → l.left ≡ n → (scan known [] ls ≡ Accepted → Read [] ls) → Read [] (l ∷ ls)
+      go : (n : ℕ) → l.left ≡ n → (scan known [] ls ≡ Ok tt → Read [] ls) → Read [] (l ∷ ls)
       go zero z next = idle [] l ls z e next
       go (suc m) z next = absurd (refused (sym (missing known m l.all ls) ∙ at_level [] l ls z e))
 
   -- at the record r
-  step : (r : Record) (rs : List Record) → (W → Widths (r ∷ rs)) → ((st : List Level) → scan known rs st ≡ Accepted → Read rs st) → (st : List Level) → scan known (r ∷ rs) st ≡ Accepted → Read (r ∷ rs) st
+  step : (r : Record) (rs : List Record) → (W → Widths (r ∷ rs)) → ((st : List Level) → scan known rs st ≡ Ok tt → Read rs st) → (st : List Level) → scan known (r ∷ rs) st ≡ Ok tt → Read (r ∷ rs) st
   step r rs w ih [] e = absurd (refused (sym (surplus known r rs) ∙ e))
   step r rs w ih (l ∷ ls) e = go l.left refl (step r rs w ih ls)
     where
-      go : (n : ℕ) → l.left ≡ n → (scan known (r ∷ rs) ls ≡ Accepted → Read (r ∷ rs) ls) → Read (r ∷ rs) (l ∷ ls)
+      go : (n : ℕ) → l.left ≡ n → (scan known (r ∷ rs) ls ≡ Ok tt → Read (r ∷ rs) ls) → Read (r ∷ rs) (l ∷ ls)
       go zero z next = idle (r ∷ rs) l ls z e next
       go (suc m) z next =
           let s = or_else_lem _ _ (sym (awaited known r rs m l.all ls) ∙ at_level (r ∷ rs) l ls z e) in
           busy r rs l ls z s.0 w (ih _ s.1)
 
-  read : (rs : List Record) (st : List Level) → (W → Widths rs) → scan known rs st ≡ Accepted → Read rs st
+  read : (rs : List Record) (st : List Level) → (W → Widths rs) → scan known rs st ≡ Ok tt → Read rs st
   unfolding Widths
   read [] st w e = last st e
   read (r ∷ rs) st w e = step r rs w (λ st' e'. read rs st' (λ v. (w v).1) e') st e
@@ -108,7 +108,7 @@ unfolding count_i drop_i
 one none l e = absurd (omega arith)
 one (item h k r) l e = ap (item h k) e
 
-module _ (known : Known) (t : List ℕ) (e : refusal_in known t ≡ Accepted) where
+module _ (known : Known) (t : List ℕ) (e : refusal_in known t ≡ Ok tt) where
   all_read : Read known (Bytes t) (records t) (level 1 false ∷ [])
   all_read = read known (Bytes t) (records t) (level 1 false ∷ []) (widths t) (sym (scanned known t (sized known t e)) ∙ e)
 
@@ -136,5 +136,5 @@ module _ (known : Known) (t : List ℕ) (e : refusal_in known t ≡ Accepted) wh
     each = rw built at (all_read.trees.fit b);
   }
 
-pub accepted_fits : (known : Known) (t : List ℕ) → Bytes t → refusal_in known t ≡ Accepted → (t ≡ encode (single (tree t))) × TreeFits known (tree t)
+pub accepted_fits : (known : Known) (t : List ℕ) → Bytes t → refusal_in known t ≡ Ok tt → (t ≡ encode (single (tree t))) × TreeFits known (tree t)
 accepted_fits known t b e = (encoded known t e b, fitting known t e b)

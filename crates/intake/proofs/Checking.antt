@@ -1,4 +1,5 @@
 -- A tree's first refusal, by the length of its bytes. Assumes nothing.
+use Rattle.std.specs.Prelude.{Ok, Err}
 use mathlib.Core.Path.{◌≡◌, ◌∙◌}
 use mathlib.Core.Bool.{false}
 use mathlib.Core.List.{List, [], ◌∷◌}
@@ -10,7 +11,6 @@ use borrow.Author.Tests.{eq-eqb, ne_eqb, lt-ltb, le-ltb}
 use Rattle.particle.specs.Record.{record_size, max_records}
 use Rattle.particle.specs.Tree.{records}
 use Rattle.intake.specs.declared.Fault.TheVariants.{Counts}
-use Rattle.intake.specs.declared.Checked.TheVariants.{Accepted, Refused}
 use Rattle.intake.specs.Faults.{Known}
 use Rattle.intake.specs.Scan.{level, scan, refusal_in}
 use Rattle.intake.proofs.Steps.{refused}
@@ -23,16 +23,16 @@ pub record Sized (t : List ℕ) : Type 0 where
 
 -- before any record is read
 module _ (known : Known) (t : List ℕ) where
-  pub empty : length t ≡ 0 → Refused Counts ≡ refusal_in known t
+  pub empty : length t ≡ 0 → Err Counts ≡ refusal_in known t
   unfolding refusal_in
   empty z = rw (eq-eqb _ _ z)
 
   module _ (n : length t ≡ 0 → ⊥) where
-    pub over : record_size * max_records < length t → Refused Counts ≡ refusal_in known t
+    pub over : record_size * max_records < length t → Err Counts ≡ refusal_in known t
     unfolding refusal_in
     over l = rw (ne_eqb _ _ n, lt-ltb _ _ l)
 
-    pub broken : length t ≤ record_size * max_records → (length t % record_size ≡ 0 → ⊥) → Refused Counts ≡ refusal_in known t
+    pub broken : length t ≤ record_size * max_records → (length t % record_size ≡ 0 → ⊥) → Err Counts ≡ refusal_in known t
     unfolding refusal_in
     broken l b = rw (ne_eqb _ _ n, le-ltb _ _ l, ne_eqb _ _ b)
 
@@ -41,7 +41,7 @@ module _ (known : Known) (t : List ℕ) where
   scanned s = rw (ne_eqb _ _ s.some, le-ltb _ _ s.few, eq-eqb _ _ s.even)
 
   -- what is accepted is whole records
-  pub sized : refusal_in known t ≡ Accepted → Sized t
+  pub sized : refusal_in known t ≡ Ok tt → Sized t
   sized e = go (ℕ_discrete (length t) 0) (dec_le (length t) (record_size * max_records)) (ℕ_discrete (length t % record_size) 0)
     where
       go : Dec (length t ≡ 0) → Dec (length t ≤ record_size * max_records) → Dec (length t % record_size ≡ 0) → Sized t

@@ -1,4 +1,6 @@
 -- Every encoding of a tree that fits is accepted. Assumes nothing.
+use Rattle.std.specs.Prelude.{Result, Ok}
+use Rattle.intake.specs.declared.Fault.{Fault}
 use mathlib.Core.Path.{◌≡◌, refl, ap, sym, ◌∙◌}
 use mathlib.Core.Bool.{Bool, false}
 use mathlib.Core.List.{List, [], ◌∷◌, ◌++◌, append_assoc, append-nil}
@@ -11,8 +13,6 @@ use Rattle.particle.specs.Tree.{Items, none, item, Particle, single, count_i, si
 use Rattle.particle.specs.Encode.{kind_number, record_of, flat, encode}
 use Rattle.particle.proofs.RoundTrip.{records_joined}
 use Rattle.particle.proofs.ItemEncodes.{length_encode}
-use Rattle.intake.specs.declared.Checked.{Checked}
-use Rattle.intake.specs.declared.Checked.TheVariants.{Accepted}
 use Rattle.intake.specs.Faults.{Known}
 use Rattle.intake.specs.Scan.{Level, level, waiting, or_else, scan, refusal_in}
 use Rattle.intake.specs.Accepted.{is_all, TreesFit, TreeFits}
@@ -36,14 +36,14 @@ module _ (known : Known) where
       let next : List Level = level (count_i k) (eqb (kind_number h) 4) ∷ level (count_i r + n) a ∷ st in
       rw e'
       (awaited known (record_of h (count_i k)) ((flat k ++ flat r) ++ rs) (count_i r + n) a st
-      ∙ (ap (λ (c : Checked). or_else c (scan known ((flat k ++ flat r) ++ rs) next)) (fits_clean f.0)
+      ∙ (ap (λ (c : Result (Unit {0}) Fault). or_else c (scan known ((flat k ++ flat r) ++ rs) next)) (fits_clean f.0)
       ∙ rw
       (append_assoc (flat k) (flat r) rs, all_kind h)
       (flat_scan k (flat r ++ rs) (count_i k) 0 (omega arith) (is_all h) (level (count_i r + n) a ∷ st) f.1
       ∙ (nothing_awaited known (flat r ++ rs) (is_all h) (level (count_i r + n) a ∷ st)
       ∙ flat_scan r rs (count_i r + n) n refl a st f.2))))
 
-  nothing_left : scan known [] (level 0 false ∷ []) ≡ Accepted
+  nothing_left : scan known [] (level 0 false ∷ []) ≡ Ok tt
   unfolding scan waiting
   nothing_left = refl
 
@@ -53,7 +53,7 @@ module _ (known : Known) where
       let l = length_encode (single x) in
       record { some = λ z. omega arith; few = omega (arith, f.few); even = omega arith }
 
-pub fits_accepted : (known : Known) (x : Particle) → TreeFits known x → refusal_in known (encode (single x)) ≡ Accepted
+pub fits_accepted : (known : Known) (x : Particle) → TreeFits known x → refusal_in known (encode (single x)) ≡ Ok tt
 unfolding count_i
 fits_accepted known x f =
     scanned known (encode (single x)) (size known x f)

@@ -1,4 +1,5 @@
 -- The record of a head that fits has no fault, and a record without fault is the record of a head that fits. Assumes nothing.
+use Rattle.std.specs.Prelude.{Ok}
 use mathlib.Core.Path.{◌≡◌, refl, ap, sym, ◌∙◌}
 use mathlib.Core.Bool.{Bool, true, false, cond, not, ◌&&◌, ◌||◌, false≢true}
 use Prim.Native.Nat.{ℕ, zero, suc, ◌^◌, ◌≤◌, ◌<◌}
@@ -14,7 +15,6 @@ use Rattle.particle.specs.Tree.{Head, element, wildcard, sequence, choice, all, 
 use Rattle.particle.specs.Encode.{kind_number, leaf_number, mark_number, max_number, record_of}
 use Rattle.particle.proofs.Heads.{pair_kind, kind_capped}
 use Rattle.particle.proofs.Tests.{and-true, both_true}
-use Rattle.intake.specs.declared.Checked.TheVariants.{Accepted}
 use Rattle.intake.specs.Limits.{max_depth}
 use Rattle.intake.specs.Faults.{Known, leaf_ok, bound_ok, zeros_ok, fields_ok, fault_of}
 use Rattle.intake.specs.Accepted.{LeafFits, MaxFits, AllFits, MemberFits, is_all, RecordFits}
@@ -67,7 +67,7 @@ member_ok true (sequence p) f = absurd f
 member_ok true (choice p) f = absurd f
 member_ok true (all p) f = absurd f
 
-pub fits_clean : {known : Known} {h : Head} {k : Items} {d : ℕ} {a : Bool} → RecordFits known h k d a → fault_of known (record_of h (count_i k)) d a ≡ Accepted
+pub fits_clean : {known : Known} {h : Head} {k : Items} {d : ℕ} {a : Bool} → RecordFits known h k d a → fault_of known (record_of h (count_i k)) d a ≡ Ok tt
 fits_clean {known} {h} {k} {d} {a} f =
     sym
     (tests
@@ -151,7 +151,7 @@ member_fits true (sequence p) e = false≢true e
 member_fits true (choice p) e = false≢true e
 member_fits true (all p) e = false≢true e
 
-head_fits : (known : Known) (h : Head) (n : ℕ) (b : Items) (d : ℕ) (a : Bool) → fault_of known (record_of h n) d a ≡ Accepted → (pair_of h).min < 2 ^ 32 → max_number (pair_of h).max < 2 ^ 32 → RecordFits known h (take_i n b) d a
+head_fits : (known : Known) (h : Head) (n : ℕ) (b : Items) (d : ℕ) (a : Bool) → fault_of known (record_of h n) d a ≡ Ok tt → (pair_of h).min < 2 ^ 32 → max_number (pair_of h).max < 2 ^ 32 → RecordFits known h (take_i n b) d a
 head_fits known h n b d a e hn hm =
     let c = clean known (record_of h n) d a e in
     let g = and-true _ (not a || eqb (kind_number h) 0) c.group in
@@ -163,7 +163,7 @@ head_fits known h n b d a e hn hm =
       shallow = shallow known (record_of h n) d a e;
     }
 
-module _ (known : Known) (r : Record) (d : ℕ) (a : Bool) (e : fault_of known r d a ≡ Accepted) where
+module _ (known : Known) (r : Record) (d : ℕ) (a : Bool) (e : fault_of known r d a ≡ Ok tt) where
   -- no field says more than the head does
   pub faithful : record_of (head_of r) r.count ≡ r
   faithful =
@@ -191,7 +191,7 @@ module _ (known : Known) (r : Record) (d : ℕ) (a : Bool) (e : fault_of known r
       (omega (arith, ap (λ (x : Record). x.max) faithful))
 
 -- an all-group's items have no items
-pub not_in_all : (known : Known) (r : Record) (d : ℕ) (a : Bool) → fault_of known r d a ≡ Accepted → (r.count ≡ 0 → ⊥) → a ≡ false
+pub not_in_all : (known : Known) (r : Record) (d : ℕ) (a : Bool) → fault_of known r d a ≡ Ok tt → (r.count ≡ 0 → ⊥) → a ≡ false
 not_in_all known r d false e n = refl
 not_in_all known r d true e n =
     let c = clean known r d true e in

@@ -1,4 +1,5 @@
 -- What the loops of `scan` keep: the levels that the locals stand for, and that the records left decide the answer. Assumes nothing.
+use Rattle.std.specs.Prelude.{Result, Ok, Err}
 use mathlib.Core.Path.{◌≡◌, refl, ap, sym, ◌∙◌}
 use mathlib.Core.Bool.{Bool, false}
 use mathlib.Core.List.{List, [], ◌∷◌}
@@ -11,8 +12,6 @@ use lib.Seq.{get_or-set_same, get_or-set_other}
 use Rattle.particle.specs.declared.Record.{Record}
 use Rattle.intake.specs.declared.Fault.{Fault}
 use Rattle.intake.specs.declared.Fault.TheVariants.{Counts}
-use Rattle.intake.specs.declared.Checked.{Checked}
-use Rattle.intake.specs.declared.Checked.TheVariants.{Accepted, Refused}
 use Rattle.intake.specs.Limits.{max_depth}
 use Rattle.intake.specs.Faults.{Known, fault_of}
 use Rattle.intake.specs.Scan.{Level, level, waiting, or_else, scan}
@@ -36,7 +35,7 @@ groups_set zero outer i v h = refl
 groups_set (suc n) outer i v h = rw (get_or-set_other outer i n v 0 (λ e. omega arith), groups_set n outer i v (omega arith))
 
 -- what is to be answered for the records ts
-abbrev pub wanted : Known → List Record → Checked
+abbrev pub wanted : Known → List Record → Result (Unit {0}) Fault
 wanted known ts = scan known ts (level 1 false ∷ [])
 
 -- inside a turn: the records rs are left, with these levels, and the innermost group may have its items
@@ -79,38 +78,38 @@ module _ {known : Known} {ts : List Record} {left : ℕ} {all : Bool} {outer : L
 
 module _ {known : Known} {ts : List Record} {left : ℕ} {all : Bool} {outer : List ℕ} {above : ℕ} {rs : List Record} (b : Between known ts left all outer above rs) where
   -- after the last record
-  pub whole : rs ≡ [] → left ≡ 0 → Accepted ≡ wanted known ts
+  pub whole : rs ≡ [] → left ≡ 0 → Ok tt ≡ wanted known ts
   unfolding groups scan waiting
   whole e z = sym (full b.state z ∙ rw (e, b.top z))
 
-  pub too_few : rs ≡ [] → (left ≡ 0 → ⊥) → Refused Counts ≡ wanted known ts
+  pub too_few : rs ≡ [] → (left ≡ 0 → ⊥) → Err Counts ≡ wanted known ts
   too_few e n = sym (busy b.state n ∙ rw e (missing known (left - 1) all (groups above outer)))
 
 -- the record r is awaited, and what is found is its own first fault
-pub record Judged (known : Known) (ts : List Record) (left : ℕ) (all : Bool) (outer : List ℕ) (above : ℕ) (r : Record) (next : List Record) (found : Checked) : Type 0 where
+pub record Judged (known : Known) (ts : List Record) (left : ℕ) (all : Bool) (outer : List ℕ) (above : ℕ) (r : Record) (next : List Record) (found : Result (Unit {0}) Fault) : Type 0 where
   pub between : Between known ts left all outer above (r ∷ next)
   pub awaits : left ≡ 0 → ⊥
   pub own : fault_of known r (above + 1) all ≡ found
 
 module _ {known : Known} {ts : List Record} {left : ℕ} {all : Bool} {outer : List ℕ} {above : ℕ} {r : Record} {next : List Record} where
   -- a record that no group awaits
-  pub too_many : Between known ts left all outer above (r ∷ next) → left ≡ 0 → Refused Counts ≡ wanted known ts
+  pub too_many : Between known ts left all outer above (r ∷ next) → left ≡ 0 → Err Counts ≡ wanted known ts
   unfolding groups
   too_many b z = sym (full b.state z ∙ rw (b.top z) (surplus known r next))
 
-  pub judged_as : {found answer : Checked} → Judged known ts left all outer above r next found → found ≡ answer → Judged known ts left all outer above r next answer
+  pub judged_as : {found answer : Result (Unit {0}) Fault} → Judged known ts left all outer above r next found → found ≡ answer → Judged known ts left all outer above r next answer
   judged_as j e = record { between = j.between; awaits = j.awaits; own = j.own ∙ e }
 
-  record_scanned : {found : Checked} → Judged known ts left all outer above r next found → wanted known ts ≡ or_else found (scan known next (level r.count (eqb r.kind 4) ∷ level (left - 1) all ∷ groups above outer))
+  record_scanned : {found : Result (Unit {0}) Fault} → Judged known ts left all outer above r next found → wanted known ts ≡ or_else found (scan known next (level r.count (eqb r.kind 4) ∷ level (left - 1) all ∷ groups above outer))
   record_scanned j =
       let d : suc (length (groups above outer)) ≡ above + 1 = omega (arith, length_groups above outer) in
       rw (← j.own, ← d) (busy j.between.state j.awaits ∙ awaited known r next (left - 1) all (groups above outer))
 
-  pub fault : {f : Fault} → Judged known ts left all outer above r next (Refused f) → Refused f ≡ wanted known ts
+  pub fault : {f : Fault} → Judged known ts left all outer above r next (Err f) → Err f ≡ wanted known ts
   fault j = sym (record_scanned j)
 
   -- without a fault
-  module _ (j : Judged known ts left all outer above r next Accepted) where
+  module _ (j : Judged known ts left all outer above r next (Ok tt)) where
     pub leaf : r.count ≡ 0 → Scanning known ts (left - 1) all outer above next
     leaf z = record { size = j.between.state.size; within = j.between.state.within; answer = rw z at (record_scanned j) ∙ nothing_awaited known next _ _ }
 

@@ -1,9 +1,8 @@
 -- What is wrong with one record, in document 01's order: fields, pair, all-group, depth. Assumes nothing: these are definitions.
-use Rattle.std.specs.Prelude.{Bool, cond, not, ◌&&◌, ◌||◌, ℕ, eqb, ltb, leb}
+use Rattle.std.specs.Prelude.{Bool, cond, not, ◌&&◌, ◌||◌, ℕ, eqb, ltb, leb, Result, Ok, Err}
 use Rattle.particle.specs.declared.Record.{Record}
+use Rattle.intake.specs.declared.Fault.{Fault}
 use Rattle.intake.specs.declared.Fault.TheVariants.{Fields, Pair, AllGroup, Depth}
-use Rattle.intake.specs.declared.Checked.{Checked}
-use Rattle.intake.specs.declared.Checked.TheVariants.{Accepted, Refused}
 use Rattle.intake.specs.Limits.{max_depth}
 
 -- which leaf numbers there are, by kind
@@ -35,6 +34,6 @@ abbrev pub all_ok : Record → (in_all : Bool) → Bool
 all_ok r in_all = (not (eqb r.kind 4) || (eqb r.unbounded 0 && eqb r.max 1)) && (not in_all || eqb r.kind 0)
 
 -- the first fault of a record at this depth
-abbrev pub fault_of : Known → Record → (depth : ℕ) → (in_all : Bool) → Checked
+abbrev pub fault_of : Known → Record → (depth : ℕ) → (in_all : Bool) → Result (Unit {0}) Fault
 fault_of known r depth in_all =
-    cond (fields_ok known r) (cond (pair_ok r) (cond (all_ok r in_all) (cond (leb depth max_depth) Accepted (Refused Depth)) (Refused AllGroup)) (Refused Pair)) (Refused Fields)
+    cond (fields_ok known r) (cond (pair_ok r) (cond (all_ok r in_all) (cond (leb depth max_depth) (Ok tt) (Err Depth)) (Err AllGroup)) (Err Pair)) (Err Fields)

@@ -1,16 +1,17 @@
 // The check of a tree: its first refusal, record by record.
 #![tactic(auto)]
 
-ghost use Rattle.std.specs.Prelude.{◌≡◌, false, [], ◌∷◌, ◌<◌};
+ghost use Rattle.std.specs.Prelude.{◌≡◌, false, [], ◌∷◌, ◌<◌, Some};
 ghost use Rattle.particle.specs.Tree.{records};
 ghost use Rattle.intake.specs.Faults.{leaf_ok, bound_ok, zeros_ok, fields_ok, pair_ok, all_ok, fault_of};
 ghost use Rattle.intake.specs.Scan.{level, scan, listed, alone, refusal_in};
-ghost use Rattle.intake.specs.Number.{fault_place, refusal_number};
+ghost use Rattle.intake.specs.Number.{fault_place, refusal_number, refused_text};
 
 use particle::Record;
+use std::fmt;
 
 // What is wrong with a tree, in the order in which a record is checked.
-#[derive(Clone, Copy)]
+#[derive(Clone, Copy, Debug, PartialEq, Eq)]
 pub enum Fault {
     Fields,
     Pair,
@@ -20,7 +21,7 @@ pub enum Fault {
 }
 
 // Why a sheet, a tree, a chain, a type number, a table of types or a buffer is turned away.
-#[derive(Clone, Copy)]
+#[derive(Clone, Copy, Debug, PartialEq, Eq)]
 pub enum Refusal {
     Contents,
     Buffer,
@@ -32,13 +33,6 @@ pub enum Refusal {
     Limit,
     TypeNumber,
     TypeTable,
-}
-
-// What the check of a tree finds.
-#[derive(Clone, Copy)]
-pub enum Checked {
-    Accepted,
-    Refused(Fault),
 }
 
 // In a list of leaf kinds: a leaf that may be an element or a wildcard.
@@ -54,27 +48,19 @@ pub const MAX_LEAVES: usize = 64;
 fn is_listed(r: Record, kinds: &[u8]) -> bool
     ensures { result ≡ listed kinds.now r.kind r.leaf }
 {
-    let l = r.leaf as usize;
-    if l < kinds.len() {
-        let k = kinds[l];
-        if k == EITHER {
-            return true;
-        }
-        return k == r.kind;
-    }
-    false
+    kinds
+        .get(usize::from(r.leaf))
+        .is_some_and(|&k| (k == EITHER) | (k == r.kind))
 }
 
 fn leaf_ok(r: Record, kinds: &[u8]) -> bool
     ensures { result ≡ leaf_ok (listed kinds.now) r }
 {
     if r.kind < particle::SEQUENCE {
-        if is_listed(r, kinds) {
-            return r.count == 0;
-        }
-        return false;
+        is_listed(r, kinds) && r.count == 0
+    } else {
+        r.leaf == 0
     }
-    r.leaf == 0
 }
 
 fn bound_ok(r: Record) -> bool
@@ -92,13 +78,7 @@ fn zeros_ok(r: Record) -> bool
 fn fields_ok(r: Record, kinds: &[u8]) -> bool
     ensures { result ≡ fields_ok (listed kinds.now) r }
 {
-    if r.kind <= particle::ALL {
-        if leaf_ok(r, kinds) {
-            return bound_ok(r) & zeros_ok(r);
-        }
-        return false;
-    }
-    false
+    r.kind <= particle::ALL && leaf_ok(r, kinds) && bound_ok(r) & zeros_ok(r)
 }
 
 fn pair_ok(r: Record) -> bool
@@ -110,46 +90,37 @@ fn pair_ok(r: Record) -> bool
 fn all_ok(r: Record, in_all: bool) -> bool
     ensures { result ≡ all_ok r in_all }
 {
-    if r.kind == particle::ALL {
-        if r.unbounded != 0 {
-            return false;
-        }
-        if r.max != 1 {
-            return false;
-        }
-    }
-    if in_all {
-        return r.kind == particle::ELEMENT;
-    }
-    true
+    (r.kind != particle::ALL || (r.unbounded == 0 && r.max == 1))
+        && (!in_all || r.kind == particle::ELEMENT)
 }
 
 // The first fault of the record r, at this depth.
-fn fault_of(r: Record, kinds: &[u8], depth: usize, in_all: bool) -> Checked
+fn fault_of(r: Record, kinds: &[u8], depth: usize, in_all: bool) -> Result<(), Fault>
     ensures { result ≡ fault_of (listed kinds.now) r depth in_all }
 {
     let fields = fields_ok(r, kinds);
     let pair = pair_ok(r);
     let group = all_ok(r, in_all);
     if !fields {
-        return Checked::Refused(Fault::Fields);
+        return Err(Fault::Fields);
     }
     if !pair {
-        return Checked::Refused(Fault::Pair);
+        return Err(Fault::Pair);
     }
     if !group {
-        return Checked::Refused(Fault::AllGroup);
+        return Err(Fault::AllGroup);
     }
     if depth <= MAX_DEPTH {
-        return Checked::Accepted;
+        Ok(())
+    } else {
+        Err(Fault::Depth)
     }
-    Checked::Refused(Fault::Depth)
 }
 
 // The first fault of the records of t, which may also be too few or too many for their item counts. An open group is
 // kept by how many items it still awaits: `left` for the innermost one, `outer` for those above it, outermost first.
 // An item of an all-group has no items, so only the innermost group can be an all-group.
-fn scan(t: &[u8], kinds: &[u8]) -> Checked
+fn scan(t: &[u8], kinds: &[u8]) -> Result<(), Fault>
     ensures { result ≡ scan (listed kinds.now) (records t.now) (level 1 false ∷ []) }
 {
     let mut left: u16 = 1;
@@ -162,11 +133,9 @@ fn scan(t: &[u8], kinds: &[u8]) -> Checked
         let next = particle::skip(rest, 1);
         rest = next;
         if left == 0 {
-            return Checked::Refused(Fault::Counts);
+            return Err(Fault::Counts);
         }
-        if let Checked::Refused(f) = fault_of(r, kinds, above + 1, in_all) {
-            return Checked::Refused(f);
-        }
+        fault_of(r, kinds, above + 1, in_all)?;
         left -= 1;
         if r.count != 0 {
             outer[above] = left;
@@ -182,30 +151,27 @@ fn scan(t: &[u8], kinds: &[u8]) -> Checked
         }
     }
     if left == 0 {
-        return Checked::Accepted;
+        Ok(())
+    } else {
+        Err(Fault::Counts)
     }
-    Checked::Refused(Fault::Counts)
 }
 
 // The first refusal of the tree t, whose leaves are of these kinds.
-pub fn check_tree(t: &[u8], kinds: &[u8]) -> Checked
+#[tactic(auto, unfolding(crate::specs::Scan::refusal_in))]
+pub fn check_tree(t: &[u8], kinds: &[u8]) -> Result<(), Fault>
     ensures { result ≡ refusal_in (listed kinds.now) t.now }
 {
     let len = t.len();
-    if len == 0 {
-        return Checked::Refused(Fault::Counts);
-    }
-    if particle::RECORD_SIZE * particle::MAX_RECORDS < len {
-        return Checked::Refused(Fault::Counts);
-    }
-    if len % particle::RECORD_SIZE != 0 {
-        return Checked::Refused(Fault::Counts);
+    let over = particle::RECORD_SIZE * particle::MAX_RECORDS < len;
+    if len == 0 || over || len % particle::RECORD_SIZE != 0 {
+        return Err(Fault::Counts);
     }
     scan(t, kinds)
 }
 
 // The first refusal of a tree alone, which has no leaf list: any leaf number below MAX_LEAVES, as an element or a wildcard.
-pub fn check_alone(t: &[u8]) -> Checked
+pub fn check_alone(t: &[u8]) -> Result<(), Fault>
     ensures { result ≡ refusal_in alone t.now }
 {
     let kinds = [EITHER; MAX_LEAVES];
@@ -213,32 +179,45 @@ pub fn check_alone(t: &[u8]) -> Checked
 }
 
 // The number of a refusal in documents 01 and 02.
-pub fn number(r: Refusal) -> u32
-    ensures { (result ≡ refusal_number r) × (result < 256) }
-{
-    match r {
-        Refusal::Contents => 1,
-        Refusal::Buffer => 2,
-        Refusal::Leaf => 3,
-        Refusal::Verdict => 4,
-        Refusal::Base(f) => 5 + place(f),
-        Refusal::Derived(f) => 10 + place(f),
-        Refusal::Chain => 15,
-        Refusal::Limit => 16,
-        Refusal::TypeNumber => 17,
-        Refusal::TypeTable => 18,
+impl From<Refusal> for u32 {
+    ghost from_gives = { λ r n. (n ≡ refusal_number r) × (n < 256) };
+
+    fn from(r: Refusal) -> u32 {
+        match r {
+            Refusal::Contents => 1,
+            Refusal::Buffer => 2,
+            Refusal::Leaf => 3,
+            Refusal::Verdict => 4,
+            Refusal::Base(f) => 5 + u32::from(f),
+            Refusal::Derived(f) => 10 + u32::from(f),
+            Refusal::Chain => 15,
+            Refusal::Limit => 16,
+            Refusal::TypeNumber => 17,
+            Refusal::TypeTable => 18,
+        }
+    }
+}
+
+// As a program prints it.
+impl fmt::Display for Refusal {
+    ghost output = { λ r. Some (refused_text r) };
+
+    fn fmt<W: fmt::Write>(&self, f: &mut fmt::Formatter<W>) -> fmt::Result {
+        write!(f, "refused {}", u32::from(*self))
     }
 }
 
 // A fault's place in the order of the checks, from 0.
-fn place(f: Fault) -> u32
-    ensures { (result ≡ fault_place f) × (result < 5) }
-{
-    match f {
-        Fault::Fields => 0,
-        Fault::Pair => 1,
-        Fault::AllGroup => 2,
-        Fault::Depth => 3,
-        Fault::Counts => 4,
+impl From<Fault> for u32 {
+    ghost from_gives = { λ f n. (n ≡ fault_place f) × (n < 5) };
+
+    fn from(f: Fault) -> u32 {
+        match f {
+            Fault::Fields => 0,
+            Fault::Pair => 1,
+            Fault::AllGroup => 2,
+            Fault::Depth => 3,
+            Fault::Counts => 4,
+        }
     }
 }

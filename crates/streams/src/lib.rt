@@ -68,7 +68,7 @@ pub fn counted(input: &mut impl Read, buf: &mut [u8]) -> io::Result<usize>
 
 // `refused N`.
 pub fn print_refused(to: &impl Print, r: Refusal) -> io::Result<()> {
-    println!(to; "refused {}", intake::number(r))
+    println!(to; "{r}")
 }
 
 // The tree of k records at the start of t. No tree that an entry writes has more than MAX_RECORDS.

@@ -1,4 +1,6 @@
 -- `intake::check_alone` meets its contract: a list of `max_leaves` leaves of either kind knows what a tree alone may use. Assumes nothing.
+use Rattle.std.specs.Prelude.{Result}
+use Rattle.intake.specs.declared.Fault.{Fault}
 use mathlib.Core.Path.{◌≡◌, ap, ◌∙◌, fun_ext}
 use mathlib.Core.List.{List}
 use Prim.Native.Nat.{ℕ, ◌≤◌, ◌<◌}
@@ -7,7 +9,6 @@ use native.Mathlib.Omega.{arith}
 use lib.Dec.{ltb}
 use lib.ListN.{replicate, length-replicate, get_or-replicate}
 use borrow.Author.Tests.{lt-ltb, le-ltb}
-use Rattle.intake.specs.declared.Checked.{Checked}
 use Rattle.intake.specs.Limits.{max_leaves}
 use Rattle.intake.specs.Faults.{Known}
 use Rattle.intake.specs.Scan.{listed, alone, refusal_in}
@@ -22,7 +23,7 @@ either n kind leaf = go (dec_lt leaf n)
         let g : n ≤ leaf = omega arith in
         rw (length-replicate, le-ltb leaf n g)
 
-refusal_alone_lem : (t : List ℕ) {r : Checked} → r ≡ refusal_in (listed (replicate max_leaves 2)) t → r ≡ refusal_in alone t
+refusal_alone_lem : (t : List ℕ) {r : Result (Unit {0}) Fault} → r ≡ refusal_in (listed (replicate max_leaves 2)) t → r ≡ refusal_in alone t
 refusal_alone_lem t e = e ∙ ap (λ (known : Known). refusal_in known t) (fun_ext (λ kind. fun_ext (either max_leaves kind)))
 
 pub returns : goal.returns
