@@ -1,4 +1,5 @@
 -- A sheet is not refused exactly where it is the sheet of a paper that meets document 01's conditions, and of one such paper only. Assumes nothing.
+use Rattle.std.specs.Prelude.{Ok}
 use mathlib.Core.Path.{◌≡◌, ap, sym, ◌∙◌}
 use mathlib.Core.List.{List}
 use mathlib.Core.Logic.{◌↔◌}
@@ -8,7 +9,6 @@ use lib.Seq.{take_at, drop_at}
 use Rattle.particle.specs.Tree.{Particle, single, first_of, tree}
 use Rattle.particle.specs.Encode.{encode, Bytes}
 use Rattle.particle.proofs.RoundTrip.{decode_encode}
-use Rattle.sheet.specs.declared.SheetChecked.TheVariants.{Accepted}
 use Rattle.sheet.specs.Layout.{leaf_count, tables_part}
 use Rattle.sheet.specs.Refused.{sheet_refusal}
 use Rattle.sheet.specs.Fits.{Paper, encode_sheet, PaperFits}
@@ -17,7 +17,7 @@ use Rattle.sheet.proofs.PaperParts as parts
 use Rattle.sheet.proofs.FitsAccepted.{fits_accepted}
 use Rattle.sheet.proofs.AcceptedFits.{paper_of, paper_sheet, paper_fits}
 
-pub accepted_iff : (s : List ℕ) → Bytes s → (sheet_refusal s ≡ Accepted) ↔ ((p : Paper) × (s ≡ encode_sheet p) × PaperFits p)
+pub accepted_iff : (s : List ℕ) → Bytes s → (sheet_refusal s ≡ Ok tt) ↔ ((p : Paper) × (s ≡ encode_sheet p) × PaperFits p)
 accepted_iff s b = (
   λ e. (paper_of s, paper_sheet s b (passed s e), paper_fits s b (passed s e)),
   λ x. ap sheet_refusal x.1 ∙ fits_accepted x.0 x.2,

@@ -1,4 +1,5 @@
 -- Every sheet of a paper that fits is accepted. Assumes nothing.
+use Rattle.std.specs.Prelude.{Ok}
 use mathlib.Core.Path.{◌≡◌, ap, sym, ◌∙◌}
 use mathlib.Core.List.{List, ◌++◌}
 use Prim.Native.Nat.{ℕ}
@@ -6,12 +7,10 @@ use native.Mathlib.Omega.{arith}
 use Rattle.particle.specs.Record.{max_records}
 use Rattle.particle.specs.Tree.{Particle, single, size_i}
 use Rattle.particle.specs.Encode.{encode}
-use Rattle.intake.specs.declared.Checked.TheVariants as tree
 use Rattle.intake.specs.Faults.{Known}
 use Rattle.intake.specs.Scan.{refusal_in, listed}
 use Rattle.intake.specs.Accepted.{TreeFits}
 use Rattle.intake.proofs.FitsAccepted as trees
-use Rattle.sheet.specs.declared.SheetChecked.TheVariants.{Accepted}
 use Rattle.sheet.specs.declared.bodies.Leaf.{Leaf}
 use Rattle.sheet.specs.Layout.{derived_part, base_part}
 use Rattle.sheet.specs.Refused.{leaf_ok, verdict_ok, kinds_of, known_in, sheet_refusal}
@@ -46,10 +45,10 @@ module _ (p : Paper) (f : PaperFits p) where
   unfolding s
   known = ap (λ (ls : List Leaf). listed (kinds_of ls)) (parts.sheet_leaves_lem p f) ∙ sym (known_is p.leaves f.leaves)
 
-  accepted : (x : Particle) (t : List ℕ) → t ≡ encode (single x) → TreeFits (known_by p.leaves) x → refusal_in (known_in s) t ≡ tree.Accepted
+  accepted : (x : Particle) (t : List ℕ) → t ≡ encode (single x) → TreeFits (known_by p.leaves) x → refusal_in (known_in s) t ≡ Ok tt
   accepted x t e fits = ap (λ (k : Known). refusal_in k t) known ∙ (ap (refusal_in (known_by p.leaves)) e ∙ trees.fits_accepted (known_by p.leaves) x fits)
 
-  pub fits_accepted : sheet_refusal (encode_sheet p) ≡ Accepted
+  pub fits_accepted : sheet_refusal (encode_sheet p) ≡ Ok tt
   unfolding s
   fits_accepted =
       not_refused s (record {

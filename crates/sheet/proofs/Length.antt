@@ -1,4 +1,5 @@
 -- How long a sheet is that is not refused 1: as long as the smallest, at least, and as the largest, at most. Assumes nothing.
+use Rattle.std.specs.Prelude.{Err}
 use mathlib.Core.Path.{◌≡◌, refl}
 use mathlib.Core.Bool.{Bool, true, false}
 use mathlib.Core.List.{List}
@@ -9,7 +10,6 @@ use lib.ListN.{length}
 use Rattle.particle.specs.Record.{max_records}
 use Rattle.intake.specs.declared.Refusal.TheVariants as refusal
 use Rattle.intake.specs.Limits.{max_leaves}
-use Rattle.sheet.specs.declared.SheetChecked.TheVariants.{Refused}
 use Rattle.sheet.specs.Layout.{total_of}
 use Rattle.sheet.specs.Refused.{contents_ok, sheet_refusal}
 use Rattle.sheet.proofs.Contents.{contents}
@@ -28,10 +28,10 @@ contents_length s e =
     )
 
 -- a sheet that is longer than the largest is refused 1
-pub longer_refused : (s : List ℕ) → total_of max_leaves max_records max_records < length s → sheet_refusal s ≡ Refused refusal.Contents
+pub longer_refused : (s : List ℕ) → total_of max_leaves max_records max_records < length s → sheet_refusal s ≡ Err refusal.Contents
 unfolding sheet_refusal
 longer_refused s l = go (contents_ok s) refl
   where
-    go : (b : Bool) → contents_ok s ≡ b → sheet_refusal s ≡ Refused refusal.Contents
+    go : (b : Bool) → contents_ok s ≡ b → sheet_refusal s ≡ Err refusal.Contents
     go true e = absurd (omega (arith, (contents_length s e).1))
     go false e = rw e

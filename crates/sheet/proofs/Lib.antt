@@ -1,6 +1,5 @@
 pub mod Tests
 pub mod Contents
-pub mod ContentsTests
 pub mod ContentsBytes
 pub mod Length
 pub mod Loops

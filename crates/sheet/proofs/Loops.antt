@@ -1,6 +1,6 @@
 -- What the loops over leaves and verdicts keep: what is left of the list. Assumes nothing.
-use mathlib.Core.Path.{◌≡◌, refl, ap, sym, ◌∙◌}
-use mathlib.Core.Bool.{Bool, true, ◌&&◌, ◌||◌, and-true, and_assoc}
+use mathlib.Core.Path.{◌≡◌, ap, sym, ◌∙◌}
+use mathlib.Core.Bool.{Bool, ◌&&◌, ◌||◌, and-true, and_assoc}
 use mathlib.Core.List.{List, [], ◌∷◌, ◌++◌, append-nil}
 use Prim.Native.Nat.{ℕ, suc, ◌+◌, ◌*◌, ◌-◌, ◌≤◌, ◌<◌, max}
 use native.Mathlib.Numerals.{add-one}
@@ -46,11 +46,6 @@ module _ (s : List ℕ) (n i : ℕ) where
       let q : n - i ≡ 0 = omega arith in
       rw q
 
-all_leaves : (s : List ℕ) (n : ℕ) → leaves_in (n - 0) (after s 0) ≡ leaves_in n s
-all_leaves s n =
-    let q : n - 0 ≡ n = omega arith in
-    rw q
-
 put : (out : List ℕ) (i k : ℕ) (xs : List ℕ) → i < length out → take (i + 1) (set out i k) ++ xs ≡ take i out ++ (k ∷ xs)
 put out i k xs b = rw (add-one i, take-suc-set out i k b) (append_snoc (take i out) k xs)
 
@@ -62,9 +57,6 @@ pub record LeavesLeft (s : List ℕ) (n size : ℕ) (out : List ℕ) (ok : Bool)
   pub kinds : take i out ++ kinds_of (leaves_in (n - i) (after s i)) ≡ kinds_of (leaves_in n s)
 
 module _ (s : List ℕ) (n : ℕ) (out : List ℕ) where
-  pub leaves_start : LeavesLeft s n (length out) out true 0
-  leaves_start = record { within = omega arith; same_size = refl; rest = ap (every leaf_ok) (sym (all_leaves s n)); kinds = ap kinds_of (all_leaves s n) }
-
   module _ {size : ℕ} (ok : Bool) (i : ℕ) (v : LeavesLeft s n size out ok i) where
     pub leaf_next : n ≤ size → i < n → (l : Leaf) → l ≡ leaf_at (after s i) → (found : Bool) → found ≡ leaf_ok l → LeavesLeft s n size (set out i l.kind) (ok && found) (i + 1)
     unfolding kinds_of
@@ -95,9 +87,6 @@ pub record VerdictsLeft (s : List ℕ) (ok : Bool) (i : ℕ) : Type 0 where
   pub rest : every verdict_ok s ≡ (ok && every verdict_ok (drop i s))
 
 module _ (s : List ℕ) where
-  pub verdicts_start : VerdictsLeft s true 0
-  verdicts_start = record { within = omega arith; rest = refl }
-
   -- m is the greatest verdict so far and p the greatest place; the next verdict and its place k are held against them
   pub verdict_next : (m p i : ℕ) → VerdictsLeft s (leb m 152 && leb p 117) i → i < length s → (k : ℕ) → leb k 117 ≡ (leb 140 (get_or s i 0) || leb (get_or s i 0) 1)
       → {m' p' : ℕ} → m' ≡ max m (get_or s i 0) → p' ≡ max p k → VerdictsLeft s (leb m' 152 && leb p' 117) (i + 1)

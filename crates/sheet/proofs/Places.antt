@@ -1,7 +1,7 @@
 -- A byte is a verdict just if it is at most 152 and its place from 140 on at most 117; the greatest of many numbers tells of all. Assumes nothing.
 use mathlib.Core.Path.{◌≡◌, refl, sym}
 use mathlib.Core.Bool.{Bool, true, false, ◌&&◌, ◌||◌, and_comm, and-false, or-true, or-false}
-use Prim.Native.Nat.{ℕ, ◌+◌, ◌-◌, ◌≤◌, ◌<◌, max}
+use Prim.Native.Nat.{ℕ, ◌≤◌, max}
 use native.Mathlib.Omega.{arith}
 use lib.Dec.{leb}
 use borrow.Author.Tests.{leb-true, leb-false, le-leb, lt-leb}
@@ -35,12 +35,6 @@ pub both_most : (x a m y b n : ℕ) → (leb (max x a) m && leb (max y b) n) ≡
 both_most x a m y b n = rw (leb_max x a m, leb_max y b n) (exchange (leb x m) (leb a m) (leb y n) (leb b n))
 
 -- Places -----------------------------------------------------------------------
-
-pub place_below : (v : ℕ) → v < 140 → leb (v + 116) 117 ≡ (leb 140 v || leb v 1)
-place_below v h = rw (lt-leb 140 v h) (same_test (v + 116) 117 v 1 (λ g. omega (arith, g)) (λ g. omega (arith, g)))
-
-pub place_from : (v : ℕ) → 140 ≤ v → v < 256 → leb (v - 140) 117 ≡ (leb 140 v || leb v 1)
-place_from v h b = rw (le-leb 140 v h) (le-leb (v - 140) 117 (omega arith))
 
 pub verdict_by_place : (v : ℕ) → (leb v 152 && (leb 140 v || leb v 1)) ≡ verdict_ok v
 verdict_by_place v = go (leb v 1) refl

@@ -1,13 +1,7 @@
 -- Tests made one after the other, the first that fails being the answer. Assumes nothing.
 use mathlib.Core.Path.{◌≡◌, sym, ◌∙◌}
-use mathlib.Core.Bool.{Bool, true, false, not, ◌&&◌}
+use mathlib.Core.Bool.{Bool, true, false, not}
 use borrow.Author.Tests.{not-true, not-false}
-
-pub first_fails : {a : Bool} (b : Bool) → a ≡ false → false ≡ (a && b)
-first_fails b e = rw e
-
-pub first_passes : {a b r : Bool} → a ≡ true → r ≡ b → r ≡ (a && b)
-first_passes e f = rw e f
 
 -- r is what a test found, and the code asked for its failure
 pub test_failed : {r a : Bool} → r ≡ a → not r ≡ true → a ≡ false

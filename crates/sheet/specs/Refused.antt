@@ -1,16 +1,12 @@
 -- The first refusal of a sheet, in document 01's order: 1, 3, 4, base tree, derived tree. Assumes nothing: these are definitions.
-use Rattle.std.specs.Prelude.{Bool, true, cond, ◌&&◌, ◌||◌, List, [], ◌∷◌, ℕ, eqb, leb, length}
+use Rattle.std.specs.Prelude.{Bool, true, cond, ◌&&◌, ◌||◌, List, [], ◌∷◌, ℕ, eqb, leb, length, Result, Ok, Err}
 use Rattle.particle.specs.Record.{max_records}
 use Rattle.intake.specs.declared.Fault.{Fault}
 use Rattle.intake.specs.declared.Refusal.{Refusal}
 use Rattle.intake.specs.declared.Refusal.TheVariants.{Contents, Leaf, Verdict, Base, Derived}
-use Rattle.intake.specs.declared.Checked.{Checked}
-use Rattle.intake.specs.declared.Checked.TheVariants as tree
 use Rattle.intake.specs.Limits.{max_leaves}
 use Rattle.intake.specs.Faults.{Known}
 use Rattle.intake.specs.Scan.{refusal_in, listed}
-use Rattle.sheet.specs.declared.SheetChecked.{SheetChecked}
-use Rattle.sheet.specs.declared.SheetChecked.TheVariants.{Accepted, Refused}
 use Rattle.sheet.specs.declared.bodies.Leaf as leaf
 use Rattle.sheet.specs.Layout.{contents_size, leaf_count, derived_count, base_count, zero_byte, total_field, whole_length, tables_part, derived_part, base_part, leaf_list}
 
@@ -58,19 +54,19 @@ abbrev pub known_in : List ℕ → Known
 known_in s = listed (kinds_of (leaf_list s))
 
 -- base tree 5 to 9, then derived tree 10 to 14
-abbrev pub or_else : (Fault → Refusal) → Checked → SheetChecked → SheetChecked
-or_else number tree.Accepted next = next
-or_else number (tree.Refused f) next = Refused (number f)
+abbrev pub or_else : (Fault → Refusal) → Result (Unit {0}) Fault → Result (Unit {0}) Refusal → Result (Unit {0}) Refusal
+or_else number (Ok _) next = next
+or_else number (Err f) next = Err (number f)
 
-abbrev pub trees_refusal : Known → List ℕ → SheetChecked
-trees_refusal known s = or_else Base (refusal_in known (base_part s)) (or_else Derived (refusal_in known (derived_part s)) Accepted)
+abbrev pub trees_refusal : Known → List ℕ → Result (Unit {0}) Refusal
+trees_refusal known s = or_else Base (refusal_in known (base_part s)) (or_else Derived (refusal_in known (derived_part s)) (Ok tt))
 
-unfoldable pub sheet_refusal : List ℕ → SheetChecked
+unfoldable pub sheet_refusal : List ℕ → Result (Unit {0}) Refusal
 sheet_refusal s =
     cond (contents_ok s)
     (cond (leaves_ok (leaf_list s))
     (cond (verdicts_ok (tables_part s))
     (trees_refusal (known_in s) s)
-    (Refused Verdict))
-    (Refused Leaf))
-    (Refused Contents)
+    (Err Verdict))
+    (Err Leaf))
+    (Err Contents)

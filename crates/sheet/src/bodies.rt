@@ -4,7 +4,7 @@ ghost use Rattle.verdicts.specs.Paper.{leaf_size};
 ghost use Rattle.sheet.specs.Layout.{leaf_at, leaves_in};
 ghost use Rattle.sheet.specs.Refused.{leaf_ok, leaves_ok, verdicts_ok, kinds_of};
 
-use verdicts::{AT_NAME, AT_NAME_HIGH, AT_PROCESS, LEAF_SIZE};
+use verdicts::{AT_NAME, AT_PROCESS, LEAF_SIZE};
 
 const LAST_VERDICT: u8 = 152;
 
@@ -19,16 +19,15 @@ pub struct Leaf {
     pub name: u16,
 }
 
-// The leaf of number i.
-fn leaf_at(leaves: &[u8], i: usize) -> Leaf
-    requires { leaf_size * (i + 1) ≤ length leaves.now }
-    ensures { result ≡ leaf_at (drop (leaf_size * i) leaves.now) }
+// The leaf that l starts with.
+fn leaf_at(l: &[u8]) -> Leaf
+    requires { leaf_size ≤ length l.now }
+    ensures { result ≡ leaf_at l.now }
 {
-    let at = LEAF_SIZE * i;
     Leaf {
-        kind: leaves[at],
-        process: leaves[at + AT_PROCESS],
-        name: (leaves[at + AT_NAME] as u16) + (leaves[at + AT_NAME_HIGH] as u16) * 256,
+        kind: l[0],
+        process: l[AT_PROCESS],
+        name: particle::read_u16(l, AT_NAME),
     }
 }
 
@@ -43,32 +42,24 @@ fn leaf_ok(l: Leaf) -> bool
 
 // Whether each of the first n leaves is in order; their kinds are put down at the start of out.
 pub fn read_leaves(leaves: &[u8], n: usize, out: &mut [u8]) -> bool
-    requires n_in_bounds { leaf_size * n ≤ length leaves.now }
-    requires n_in_bounds_2 { n ≤ length out.old }
+    requires n_in_leaves { leaf_size * n ≤ length leaves.now }
+    requires n_in_out { n ≤ length out.old }
     ensures { (result ≡ leaves_ok (leaves_in n leaves.now)) × (take n out.new ≡ kinds_of (leaves_in n leaves.now)) }
 {
     let mut ok = true;
-    let mut i: usize = 0;
-    while i < n {
-        let l = leaf_at(leaves, i);
+    for i in 0..n {
+        let l = leaf_at(&leaves[LEAF_SIZE * i..]);
         out[i] = l.kind;
         ok &= leaf_ok(l);
-        i += 1;
     }
     ok
-}
-
-fn greater(a: u8, b: u8) -> u8
-    ensures { result ≡ max a b }
-{
-    if a < b { b } else { a }
 }
 
 // The place of v among the bytes from 140 on, where 0 follows 255: at most LAST_PLACE just for 140 to 255, 0 and 1.
 fn place(v: u8) -> u8
     ensures { leb result 117 ≡ (leb 140 v || leb v 1) }
 {
-    if v < 140 { v + 116 } else { v - 140 }
+    v.wrapping_sub(140)
 }
 
 // Whether each verdict of the tables is in order. Two greatest numbers decide: that takes fewer steps than a test of each byte, and many bytes at once.
@@ -77,12 +68,9 @@ pub fn verdicts_ok(tables: &[u8]) -> bool
 {
     let mut most: u8 = 0;
     let mut place_most: u8 = 0;
-    let mut i: usize = 0;
-    while i < tables.len() {
-        let v = tables[i];
-        most = greater(most, v);
-        place_most = greater(place_most, place(v));
-        i += 1;
+    for &v in tables {
+        most = most.max(v);
+        place_most = place_most.max(place(v));
     }
     (most <= LAST_VERDICT) & (place_most <= LAST_PLACE)
 }

@@ -2,7 +2,7 @@
 ghost use Rattle.std.specs.Prelude.{◌≡◌, true, ◌*◌, ◌^◌, ◌≤◌, ◌<◌, length};
 ghost use Rattle.particle.specs.Record.{record_size};
 ghost use Rattle.sheet.specs.Layout.{contents_size, leaf_count, derived_count, base_count, zero_byte, total_field, tables_at, second_at, derived_at, base_at, total_of, leaves_part, tables_part, derived_part, base_part};
-ghost use Rattle.sheet.specs.Refused.{in_range, counts_ok, contents_ok};
+ghost use Rattle.sheet.specs.Refused.{counts_ok, contents_ok};
 
 use intake::MAX_LEAVES;
 use particle::{MAX_RECORDS, RECORD_SIZE};
@@ -10,12 +10,6 @@ use verdicts::LEAF_SIZE;
 
 // The length of the contents in bytes.
 const CONTENTS_SIZE: usize = 8;
-
-fn wide(x: u8) -> usize
-    ensures { (result ≡ x) × (result < 256) }
-{
-    x as usize
-}
 
 // How many leaves the sheet has.
 pub fn leaf_count(s: &[u8]) -> u8
@@ -52,20 +46,20 @@ fn total_field(s: &[u8]) -> usize
     requires { contents_size ≤ length s.now }
     ensures { result ≡ total_field s.now }
 {
-    particle::read_u16(s, 6) as usize
+    usize::from(particle::read_u16(s, 6))
 }
 
 // Where the tables start.
 fn tables_at(n: u8) -> usize
     ensures { result ≡ tables_at n }
 {
-    CONTENTS_SIZE + LEAF_SIZE * wide(n)
+    CONTENTS_SIZE + LEAF_SIZE * usize::from(n)
 }
 
 fn square(n: u8) -> usize
     ensures { (result ≡ n * n) × (result < 65536) }
 {
-    wide(n) * wide(n)
+    usize::from(n) * usize::from(n)
 }
 
 // Where the second table starts.
@@ -86,7 +80,7 @@ fn derived_at(n: u8) -> usize
 fn records_len(records: u16) -> usize
     ensures { (result ≡ record_size * records) × (result < 2 ^ 20) }
 {
-    RECORD_SIZE * (records as usize)
+    RECORD_SIZE * usize::from(records)
 }
 
 // Where the base tree starts.
@@ -103,27 +97,14 @@ fn total_of(n: u8, d: u16, b: u16) -> usize
     base_at(n, d) + records_len(b)
 }
 
-pub fn in_range(n: usize, least: usize, most: usize) -> bool
-    ensures { result ≡ in_range least most n }
-{
-    if n < least {
-        return false;
-    }
-    n <= most
-}
-
 // Whether each count is in its range.
 fn counts_ok(s: &[u8]) -> bool
     requires { contents_size ≤ length s.now }
     ensures { result ≡ counts_ok s.now }
 {
-    if !in_range(leaf_count(s) as usize, 1, MAX_LEAVES) {
-        return false;
-    }
-    if !in_range(derived_count(s) as usize, 1, MAX_RECORDS) {
-        return false;
-    }
-    in_range(base_count(s) as usize, 1, MAX_RECORDS)
+    (1..=MAX_LEAVES).contains(&usize::from(leaf_count(s)))
+        && (1..=MAX_RECORDS).contains(&usize::from(derived_count(s)))
+        && (1..=MAX_RECORDS).contains(&usize::from(base_count(s)))
 }
 
 // Whether the contents are in order, and the sheet is as long as they say.
@@ -133,18 +114,8 @@ pub fn contents_ok(s: &[u8]) -> bool
     if s.len() < CONTENTS_SIZE {
         return false;
     }
-    if !counts_ok(s) {
-        return false;
-    }
-    if zero_byte(s) != 0 {
-        return false;
-    }
     let total = total_of(leaf_count(s), derived_count(s), base_count(s));
-    let field = total_field(s);
-    if field != total {
-        return false;
-    }
-    s.len() == total
+    counts_ok(s) && zero_byte(s) == 0 && total_field(s) == total && s.len() == total
 }
 
 // The leaves.

@@ -10,55 +10,42 @@ ghost use Rattle.intake.specs.Scan.{listed};
 ghost use Rattle.sheet.specs.Layout.{leaf_count, leaf_list};
 ghost use Rattle.sheet.specs.Refused.{contents_ok, kinds_of, trees_refusal, sheet_refusal};
 
-use intake::{Checked, Refusal};
+use intake::Refusal;
 pub use layout::{base, derived, leaf_count, leaves, second_at, second_end, tables};
 
-// What the check of a sheet finds.
-#[derive(Clone, Copy)]
-pub enum SheetChecked {
-    Accepted,
-    Refused(Refusal),
-}
-
 // The first refusal of the trees, whose leaves are of these kinds: the base tree's before the derived tree's.
-fn check_trees(s: &[u8], kinds: &[u8]) -> SheetChecked
+fn check_trees(s: &[u8], kinds: &[u8]) -> Result<(), Refusal>
     requires { contents_ok s.now ≡ true }
     ensures { result ≡ trees_refusal (listed kinds.now) s.now }
 {
-    let base = layout::base(s);
-    let derived = layout::derived(s);
-    match intake::check_tree(base, kinds) {
-        Checked::Refused(f) => SheetChecked::Refused(Refusal::Base(f)),
-        Checked::Accepted => match intake::check_tree(derived, kinds) {
-            Checked::Refused(f) => SheetChecked::Refused(Refusal::Derived(f)),
-            Checked::Accepted => SheetChecked::Accepted,
-        },
-    }
+    intake::check_tree(layout::base(s), kinds).map_err(Refusal::Base)?;
+    intake::check_tree(layout::derived(s), kinds).map_err(Refusal::Derived)
 }
 
 // The kinds of the sheet's leaves, at the start of out.
 pub fn leaf_kinds(s: &[u8], out: &mut [u8])
-    requires s_value { contents_ok s.now ≡ true }
-    requires max_leaves_in_bounds { max_leaves ≤ length out.old }
+    requires in_order { contents_ok s.now ≡ true }
+    requires room { max_leaves ≤ length out.old }
     ensures { take (leaf_count s.now) out.new ≡ kinds_of (leaf_list s.now) }
 {
-    bodies::read_leaves(layout::leaves(s), leaf_count(s) as usize, out);
+    bodies::read_leaves(layout::leaves(s), usize::from(leaf_count(s)), out);
 }
 
 // The first refusal of a sheet. Every byte string is an input.
-pub fn check(s: &[u8]) -> SheetChecked
+#[tactic(auto, unfolding(crate::specs::Refused::sheet_refusal))]
+pub fn check(s: &[u8]) -> Result<(), Refusal>
     ensures { result ≡ sheet_refusal s.now }
 {
     if !layout::contents_ok(s) {
-        return SheetChecked::Refused(Refusal::Contents);
+        return Err(Refusal::Contents);
     }
-    let n = leaf_count(s) as usize;
+    let n = usize::from(leaf_count(s));
     let mut kinds = [0; intake::MAX_LEAVES];
     if !bodies::read_leaves(layout::leaves(s), n, &mut kinds) {
-        return SheetChecked::Refused(Refusal::Leaf);
+        return Err(Refusal::Leaf);
     }
     if !bodies::verdicts_ok(tables(s)) {
-        return SheetChecked::Refused(Refusal::Verdict);
+        return Err(Refusal::Verdict);
     }
     check_trees(s, &kinds[..n])
 }

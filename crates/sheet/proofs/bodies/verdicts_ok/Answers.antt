@@ -2,8 +2,8 @@
 use Rattle.sheet.proofs.Loops.{verdict_next, verdicts_done}
 use Rattle.sheet.proofs.bodies.verdicts_ok.Goals as goal
 
-pub loop-i-preserved : goal.loop-i-preserved
-loop-i-preserved c = search verdict_next
+pub loop-v-preserved : goal.loop-v-preserved
+loop-v-preserved c = search verdict_next
 
 pub returns : goal.returns
 returns c = search verdicts_done
