@@ -2,7 +2,6 @@
 // `emptiable no`, or `refused N`. MIN is a number or `too large`, MAX a number, `too large` or `unbounded`.
 #![tactic(auto)]
 
-use entries::{EmptiableAnswer, TotalAnswer};
 use std::io;
 use streams::ROOM;
 use totals::{TotalMax, TotalMin, TotalRange};
@@ -34,16 +33,16 @@ fn print_total(out: &impl Print, t: TotalRange) -> io::Result<()> {
 
 fn print_emptiable(out: &impl Print, t: &[u8]) -> io::Result<()> {
     match entries::emptiable(t) {
-        EmptiableAnswer::Yes => println!(out; "emptiable yes"),
-        EmptiableAnswer::No => println!(out; "emptiable no"),
-        EmptiableAnswer::Refused(_) => Ok(()),
+        Ok(true) => println!(out; "emptiable yes"),
+        Ok(false) => println!(out; "emptiable no"),
+        Err(_) => Ok(()),
     }
 }
 
 fn describe(out: &impl Print, t: &[u8]) -> io::Result<()> {
     match entries::total_range(t) {
-        TotalAnswer::Refused(r) => streams::print_refused(out, r),
-        TotalAnswer::Total(o) => {
+        Err(r) => streams::print_refused(out, r),
+        Ok(o) => {
             print_total(out, o)?;
             print_emptiable(out, t)
         }

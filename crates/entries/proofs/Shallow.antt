@@ -1,4 +1,5 @@
 -- What the check accepts of a tree's encoding is within the limits on records and depth, whatever the leaves. Assumes nothing.
+use Rattle.std.specs.Prelude.{Ok}
 use mathlib.Core.Bool.{Bool, false}
 use mathlib.Core.List.{List, [], ◌∷◌, ◌++◌, append_assoc, append-nil}
 use mathlib.Core.Path.{◌≡◌, refl, ap, sym, ◌∙◌}
@@ -11,7 +12,6 @@ use Rattle.particle.specs.Tree.{Items, none, item, Particle, single, count_i, re
 use Rattle.particle.specs.Encode.{record_of, flat, encode}
 use Rattle.particle.proofs.RoundTrip.{records_joined}
 use Rattle.tidying.specs.Depth.{depth_of}
-use Rattle.intake.specs.declared.Checked.TheVariants.{Accepted}
 use Rattle.intake.specs.Limits.{max_depth}
 use Rattle.intake.specs.Faults.{Known, fault_of}
 use Rattle.intake.specs.Scan.{Level, level, scan, refusal_in}
@@ -23,7 +23,7 @@ use Rattle.intake.proofs.FitsAccepted.{fits_accepted}
 
 module _ (known : Known) where
   -- trees that were read, where they and n more were awaited
-  scan_shallow : (x : Items) (rs : List Record) (m n : ℕ) → m ≡ count_i x + n → (a : Bool) (st : List Level) → length st ≤ max_depth → scan known (flat x ++ rs) (level m a ∷ st) ≡ Accepted → (depth_of x + length st ≤ max_depth) × (scan known rs (level n a ∷ st) ≡ Accepted)
+  scan_shallow : (x : Items) (rs : List Record) (m n : ℕ) → m ≡ count_i x + n → (a : Bool) (st : List Level) → length st ≤ max_depth → scan known (flat x ++ rs) (level m a ∷ st) ≡ Ok tt → (depth_of x + length st ≤ max_depth) × (scan known rs (level n a ∷ st) ≡ Ok tt)
   unfolding flat count_i depth_of
   scan_shallow none rs m n e a st l s =
       let e' : m ≡ n = omega arith in
@@ -39,11 +39,11 @@ module _ (known : Known) where
       let j = scan_shallow r rs (count_i r + n) n refl a st l (sym (nothing_awaited known (flat r ++ rs) b st') ∙ i.1) in
       (omega (arith, i.0, j.0), j.1)
 
-  pub accepted_shallow : (x : Particle) → refusal_in known (encode (single x)) ≡ Accepted → depth_of (single x) ≤ max_depth
+  pub accepted_shallow : (x : Particle) → refusal_in known (encode (single x)) ≡ Ok tt → depth_of (single x) ≤ max_depth
   unfolding encode count_i
   accepted_shallow x e =
       let read : records (encode (single x)) ≡ flat (single x) ++ [] = records_joined (flat (single x)) ∙ sym (append-nil (flat (single x))) in
-      let s : scan known (flat (single x) ++ []) (level 1 false ∷ []) ≡ Accepted = ap (λ (rs : List Record). scan known rs (level 1 false ∷ [])) (sym read) ∙ (sym (scanned known (encode (single x)) (sized known (encode (single x)) e)) ∙ e) in
+      let s : scan known (flat (single x) ++ []) (level 1 false ∷ []) ≡ Ok tt = ap (λ (rs : List Record). scan known rs (level 1 false ∷ [])) (sym read) ∙ (sym (scanned known (encode (single x)) (sized known (encode (single x)) e)) ∙ e) in
       omega (arith, (scan_shallow (single x) [] 1 0 refl false [] (omega arith) s).0)
 
   pub fits_shallow : (x : Particle) → TreeFits known x → depth_of (single x) ≤ max_depth

@@ -1,4 +1,6 @@
 -- What the entry `tidy` writes is a tidy tree that is accepted alone, and that the entry gives back as it is (document 02 §8). Assumes nothing.
+use Rattle.std.specs.Prelude.{Result, Ok, Err}
+use Rattle.intake.specs.declared.Fault.{Fault}
 use mathlib.Core.Bool.{Bool, true, false}
 use mathlib.Core.List.{List}
 use mathlib.Core.Path.{◌≡◌, refl, ap, sym, ◌∙◌}
@@ -17,8 +19,6 @@ use Rattle.tidying.specs.Tidy.{tidy}
 use Rattle.tidying.proofs.Shape.{left_alone}
 use Rattle.tidying.proofs.TidyTrees.{tidy_twice}
 use Rattle.tidying.proofs.Fewer.{count_tells}
-use Rattle.intake.specs.declared.Checked.{Checked}
-use Rattle.intake.specs.declared.Checked.TheVariants.{Accepted, Refused}
 use Rattle.intake.specs.Scan.{refusal_in, alone}
 use Rattle.intake.specs.Accepted.{TreeFits}
 use Rattle.intake.proofs.AcceptedFits.{accepted_fits}
@@ -30,11 +30,11 @@ use Rattle.entries.proofs.Tidied.{tidied, tidied_written}
 use Rattle.entries.proofs.TidiedFits.{tidy_fits}
 
 pub accepted_tidied : AcceptedTidied
-accepted_tidied t out a l = (size_i (tidied_tree t), sym (tidied t out (sym a) refl l refl))
+accepted_tidied t out a l = (size_i (tidied_tree t), sym (tidied t out a l refl))
 
 -- t was accepted and the buffer long enough
 pub record Given (t out : List ℕ) (n : ℕ) : Type 0 where
-  pub accepted : refusal_alone t ≡ Accepted
+  pub accepted : refusal_alone t ≡ Ok tt
   pub long : length t ≤ length out
   pub count : n ≡ size_i (tidied_tree t)
 
@@ -44,14 +44,14 @@ given t out n e =
     let (a, l, c) = go (refusal_alone t) (ltb (length out) (length t)) (size_i (tidied_tree t)) e in
     record { accepted = a; long = ltb-false (length out) (length t) l; count = c }
   where
-    go : (c : Checked) (short : Bool) (m : ℕ) → tidy_or c short m ≡ gives n → (c ≡ Accepted) × (short ≡ false) × (n ≡ m)
-    go (Refused f) short m e = let z : ◌≡◌ {A = ℕ} 0 1 = cc in absurd (omega arith)
-    go Accepted true m e = let z : ◌≡◌ {A = ℕ} 0 1 = cc in absurd (omega arith)
-    go Accepted false m e = (refl, refl, cc)
+    go : (c : Result (Unit {0}) Fault) (short : Bool) (m : ℕ) → tidy_or c short m ≡ gives n → (c ≡ Ok tt) × (short ≡ false) × (n ≡ m)
+    go (Err f) short m e = let z : ◌≡◌ {A = ℕ} 0 1 = cc in absurd (omega arith)
+    go (Ok tt) true m e = let z : ◌≡◌ {A = ℕ} 0 1 = cc in absurd (omega arith)
+    go (Ok tt) false m e = (refl, refl, cc)
 
 -- the buffer then starts with the tidied tree
 pub buffer_is : {t out : List ℕ} {n : ℕ} → Given t out n → tidy_buffer t out ≡ starting_with (encode (tidied_tree t)) out
-buffer_is {t} {out} g = sym (tidied_written t out (sym g.accepted) refl g.long refl)
+buffer_is {t} {out} g = sym (tidied_written t out g.accepted g.long refl)
 
 module _ {t out : List ℕ} {n : ℕ} (a : Tidies t out n) where
   pub taken : Given t out n
@@ -81,7 +81,7 @@ pub tidied_again : TidiedAgain
 tidied_again t out n a again l =
     let s = tidied_bytes t out n in
     let twice : tidied_tree s ≡ tidied_tree t = ap (λ (x : Particle). single x) (ap tidy (tree_is a) ∙ tidy_twice (tree t)) in
-    let answered : tidy_answer s again ≡ gives n = sym (tidied s again (sym (tidied_accepted t out n a).0) refl l ((taken a).count ∙ ap size_i (sym twice))) in
+    let answered : tidy_answer s again ≡ gives n = sym (tidied s again (tidied_accepted t out n a).0 l ((taken a).count ∙ ap size_i (sym twice))) in
     let g = given s again n answered in
     let whole : tidy_buffer s again ≡ starting_with s again = buffer_is g ∙ ap (λ (b : List ℕ). starting_with b again) (ap encode twice ∙ sym (bytes_are a)) in
     let size : length s ≡ record_size * n = ap length (bytes_are a) ∙ encoded_length a in

@@ -1,16 +1,15 @@
 -- The k-th item of a tree alone: which bytes it is, and where they start. Assumes nothing: these are definitions.
-use Rattle.std.specs.Prelude.{Bool, true, false, List, [], ℕ, ltb}
+use Rattle.std.specs.Prelude.{Bool, true, false, List, [], ℕ, ltb, Result, Ok, Err}
 use Rattle.particle.specs.Record.{record_at}
 use Rattle.particle.specs.Rows.{item_start, item_run}
-use Rattle.intake.specs.declared.Checked.{Checked}
-use Rattle.intake.specs.declared.Checked.TheVariants.{Accepted, Refused}
+use Rattle.intake.specs.declared.Fault.{Fault}
 use Rattle.entries.specs.Answer.{refusal_alone}
 
 -- of an accepted tree with an item k; else the other
-abbrev pub found : {A : Type 0} → Checked → Bool → A → A → A
-found (Refused f) below it other = other
-found Accepted false it other = other
-found Accepted true it other = it
+abbrev pub found : {A : Type 0} → Result (Unit {0}) Fault → Bool → A → A → A
+found (Err f) below it other = other
+found (Ok _) false it other = other
+found (Ok _) true it other = it
 
 -- the item's run of records; empty where the tree is refused or k is not below the item count
 unfoldable pub item_bytes : ℕ → List ℕ → List ℕ

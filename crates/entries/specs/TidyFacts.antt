@@ -1,7 +1,7 @@
--- What the theorems of document 02 §8 state over the entry `tidy`. Its contract: its answer r to the bytes t and the lent buffer out has tidy_meaning r ≡ tidy_answer t out, and out
+-- What the theorems of document 02 §8 state over the entry `tidy`. Its contract: its answer r to the bytes t and the lent buffer out has meaning r ≡ tidy_answer t out, and out
 -- then is tidy_buffer t out. So what is said here of tidy_answer, of tidy_buffer, of the bytes at its start and of the tree that they are holds of what the entry answers and writes.
 -- All facts but the first suppose `Tidies`: that a record count is answered, and that t are bytes, which those of a call always are. Assumes nothing: these are definitions.
-use Rattle.std.specs.Prelude.{true, List, ◌↔◌, ◌≡◌, ℕ, ◌*◌, ◌≤◌, length, take}
+use Rattle.std.specs.Prelude.{true, List, ◌↔◌, ◌≡◌, ℕ, ◌*◌, ◌≤◌, length, take, Ok}
 use Rattle.particle.specs.Record.{record_size}
 use Rattle.particle.specs.Tree.{Particle, single, tree}
 use Rattle.particle.specs.Encode.{Bytes}
@@ -13,7 +13,6 @@ use Rattle.language.specs.Premises.{BelowRoot, Throughout, NoZeroMaximum, NoEmpt
 use Rattle.tidying.specs.Tidy.{tidy}
 use Rattle.tidying.specs.Depth.{depth_of}
 use Rattle.tidying.specs.TidyTree.{BelowOutside, NoOwnKind, NoLoneItem, NoLoneChoice, TidyTree}
-use Rattle.intake.specs.declared.Checked.TheVariants.{Accepted}
 use Rattle.intake.specs.Faults.{Known}
 use Rattle.intake.specs.Scan.{refusal_in}
 use Rattle.entries.specs.Answer.{answer, gives, refusal_alone}
@@ -30,15 +29,15 @@ tidied_bytes t out n = take (record_size * n) (tidy_buffer t out)
 
 -- Every accepted tree is tidied into every buffer that is long enough.
 abbrev pub AcceptedTidied : Type 0
-AcceptedTidied = (t out : List ℕ) → refusal_alone t ≡ Accepted → length t ≤ length out → (n : ℕ) × (tidy_answer t out ≡ gives n)
+AcceptedTidied = (t out : List ℕ) → refusal_alone t ≡ Ok tt → length t ≤ length out → (n : ℕ) × (tidy_answer t out ≡ gives n)
 
 -- What was written is accepted as a tree alone, and it is the tidied tree.
 abbrev pub TidiedAccepted : Type 0
-TidiedAccepted = (t out : List ℕ) (n : ℕ) → Tidies t out n → (refusal_alone (tidied_bytes t out n) ≡ Accepted) × (tree (tidied_bytes t out n) ≡ tidy (tree t))
+TidiedAccepted = (t out : List ℕ) (n : ℕ) → Tidies t out n → (refusal_alone (tidied_bytes t out n) ≡ Ok tt) × (tree (tidied_bytes t out n) ≡ tidy (tree t))
 
 -- It fits any leaves that the tree fits.
 abbrev pub TidiedFitsLeaves : Type 0
-TidiedFitsLeaves = (t out : List ℕ) (n : ℕ) → Tidies t out n → (known : Known) → refusal_in known t ≡ Accepted → refusal_in known (tidied_bytes t out n) ≡ Accepted
+TidiedFitsLeaves = (t out : List ℕ) (n : ℕ) → Tidies t out n → (known : Known) → refusal_in known t ≡ Ok tt → refusal_in known (tidied_bytes t out n) ≡ Ok tt
 
 -- Tidied again, into any buffer that is long enough, it gives the same record count and the same bytes; every later byte keeps its value.
 abbrev pub TidiedAgain : Type 0

@@ -15,7 +15,6 @@ ghost use Rattle.types.specs.Answer.{type_meaning, type_answer, fill_meaning, fi
 ghost use Rattle.exports.specs.Numbers.{mark_number, total_min_number, total_max_number, min_number, max_number, emptiable_number, count_number, joined_number, verdict_number, filled_number, written};
 
 use chain::JoinedAnswer;
-use entries::{EmptiableAnswer, TidiedAnswer, TotalAnswer};
 use marking::MarkAnswer;
 use totals::{TotalMax, TotalMin};
 use types::{FilledAnswer, TypeAnswer};
@@ -65,11 +64,8 @@ pub fn marker_total_min(t: &[u8]) -> u64
     ensures { result ≡ min_number (answer (refusal_alone t.now) (total (tree t.now))) }
 {
     match entries::total_range(t) {
-        TotalAnswer::Total(o) => {
-            let min = o.min;
-            total_min_number(min)
-        }
-        TotalAnswer::Refused(r) => BEYOND + u64::from(u32::from(r)),
+        Ok(o) => total_min_number(o.min),
+        Err(r) => BEYOND + u64::from(u32::from(r)),
     }
 }
 
@@ -79,11 +75,8 @@ pub fn marker_total_max(t: &[u8]) -> u64
     ensures { result ≡ max_number (answer (refusal_alone t.now) (total (tree t.now))) }
 {
     match entries::total_range(t) {
-        TotalAnswer::Total(o) => {
-            let max = o.max;
-            total_max_number(max)
-        }
-        TotalAnswer::Refused(r) => BEYOND + u64::from(u32::from(r)),
+        Ok(o) => total_max_number(o.max),
+        Err(r) => BEYOND + u64::from(u32::from(r)),
     }
 }
 
@@ -92,9 +85,9 @@ pub fn marker_emptiable(t: &[u8]) -> u32
     ensures { result ≡ emptiable_number (answer (refusal_alone t.now) (emptiable (tree t.now))) }
 {
     match entries::emptiable(t) {
-        EmptiableAnswer::Yes => 1,
-        EmptiableAnswer::No => 0,
-        EmptiableAnswer::Refused(r) => u32::from(r),
+        Ok(true) => 1,
+        Ok(false) => 0,
+        Err(r) => u32::from(r),
     }
 }
 
@@ -105,8 +98,8 @@ pub fn marker_tidy(t: &[u8], out: &mut [u8]) -> u64
     ensures out_after { out.new ≡ tidy_buffer t.now out.old }
 {
     match entries::tidy(t, out) {
-        TidiedAnswer::Records(n) => n as u64,
-        TidiedAnswer::Refused(r) => BEYOND + u64::from(u32::from(r)),
+        Ok(n) => n as u64,
+        Err(r) => BEYOND + u64::from(u32::from(r)),
     }
 }
 

@@ -2,7 +2,6 @@
 // output is the item's bytes. Where there is none, a line on standard error says why: `no item` or `refused N`.
 #![tactic(auto)]
 
-use entries::EmptiableAnswer;
 use std::io;
 use streams::ROOM;
 
@@ -12,8 +11,8 @@ const NUMBER: usize = 2;
 // Why t has no such item. The entries for one tree refuse alike, so another one tells the refusal.
 fn print_why(to: &impl Print, t: &[u8]) -> io::Result<()> {
     match entries::emptiable(t) {
-        EmptiableAnswer::Refused(r) => streams::print_refused(to, r),
-        _ => println!(to; "no item"),
+        Err(r) => streams::print_refused(to, r),
+        Ok(_) => println!(to; "no item"),
     }
 }
 

@@ -2,7 +2,6 @@
 // standard error says why: `refused N`.
 #![tactic(auto)]
 
-use entries::TidiedAnswer;
 use std::io;
 use streams::ROOM;
 
@@ -12,7 +11,7 @@ fn main(rt: HostRuntime) -> io::Result<()> {
     let n = streams::read_full(&mut rt.stdin(), &mut buf)?;
     let mut out = [0u8; ROOM];
     match entries::tidy(&buf[..n], &mut out) {
-        TidiedAnswer::Records(k) => streams::print_tree(&rt, &out, k),
-        TidiedAnswer::Refused(r) => streams::print_refused(&rt.stderr(), r),
+        Ok(k) => streams::print_tree(&rt, &out, k),
+        Err(r) => streams::print_refused(&rt.stderr(), r),
     }
 }

@@ -1,11 +1,11 @@
 -- `exports::marker_total_min` meets its contract. Assumes nothing.
-use Rattle.entries.specs.Answer.{total_meaning}
+use Rattle.entries.specs.Answer.{meaning}
 use Rattle.exports.specs.Numbers.{min_number}
 use Rattle.exports.proofs.Means.{number_of, sum_of}
 use Rattle.exports.proofs.marker_total_min.Goals as goal
 
-pub returns-in-Total : goal.returns-in-Total
-returns-in-Total c = search (number_of total_meaning min_number)
+pub returns-in-Ok : goal.returns-in-Ok
+returns-in-Ok c = search (number_of meaning min_number)
 
-pub returns-in-Refused : goal.returns-in-Refused
-returns-in-Refused c = search (number_of total_meaning min_number, sum_of)
+pub returns-in-Err : goal.returns-in-Err
+returns-in-Err c = search (number_of meaning min_number, sum_of)
