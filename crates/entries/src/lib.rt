@@ -13,6 +13,7 @@ ghost use Rattle.entries.specs.TidyAnswer.{tidy_answer, tidy_buffer};
 ghost use Rattle.entries.specs.ItemAnswer.{item_place, item_bytes};
 
 use intake::Refusal;
+use particle::Subtree;
 use totals::TotalRange;
 
 // The check of a tree alone.
@@ -36,7 +37,7 @@ pub fn emptiable(t: &[u8]) -> Result<bool, Refusal>
     ensures { meaning result ≡ answer (refusal_alone t.now) (emptiable (tree t.now)) }
 {
     check(t)?;
-    Ok(particle::emptiable(t))
+    Ok(particle::emptiable(Subtree { bytes: t }))
 }
 
 // Tidies the tree t into out, from out's start, and gives the tidied tree's record count; every later byte keeps its value. Refused, and
