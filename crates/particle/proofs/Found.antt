@@ -6,6 +6,7 @@ use mathlib.Core.Path.{◌≡◌, refl, ap, sym, ◌∙◌}
 use Prim.Native.Nat.{ℕ, zero, suc, ◌-◌, ◌≤◌, ◌<◌}
 use native.Mathlib.Omega.{arith}
 use borrow.Author.Tests.{le-leb}
+use mir.Val.{bool_byte}
 use lib.Dec.{eqb, leb}
 use lib.ListN.{length}
 use Rattle.particle.specs.declared.Occurs.{Occurs}
@@ -39,6 +40,11 @@ some_from (suc (suc (suc (suc k)))) l p es z u c o = rw (le-leb 2 (suc (suc (suc
 note_told : (e : Bool) {k : ℕ} → k ≡ note_of e → eqb k 1 ≡ e
 note_told true q = rw q refl
 note_told false q = rw q refl
+
+-- the note as `u8::from` makes it
+pub note_made : (e : Bool) {k : ℕ} → k ≡ bool_byte e → k ≡ note_of e
+note_made true q = q
+note_made false q = q
 
 -- some items, as the laws on rows take them
 some_items : (n : ℕ) (t : List ℕ) → Row n t → 0 < n → is_empty (fold emptiable_from (row n t)) ≡ false

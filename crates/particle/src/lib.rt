@@ -80,18 +80,12 @@ pub struct Record {
     pub max: u32,
 }
 
-fn wide(x: u8) -> u32
-    ensures { (result ≡ x) × (result < 256) }
-{
-    x as u32
-}
-
-// The two bytes at `at`, the lower first.
+// The two bytes at `at`, the lower first. Of each width it is one line, since each integer has its own `from_le_bytes`.
 pub fn read_u16(s: &[u8], at: usize) -> u16
     requires { at + 2 ≤ length s.now }
     ensures { result ≡ half s.now at }
 {
-    (wide(s[at]) + wide(s[at + 1]) * 256) as u16
+    u16::from_le_bytes([s[at], s[at + 1]])
 }
 
 // The four bytes at `at`, the lowest first.
@@ -99,7 +93,7 @@ pub fn read_u32(s: &[u8], at: usize) -> u32
     requires { at + 4 ≤ length s.now }
     ensures { result ≡ word s.now at }
 {
-    wide(s[at]) + wide(s[at + 1]) * 256 + wide(s[at + 2]) * 65536 + wide(s[at + 3]) * 16777216
+    u32::from_le_bytes([s[at], s[at + 1], s[at + 2], s[at + 3]])
 }
 
 // The record at the start of t.
@@ -119,30 +113,12 @@ pub fn record_at(t: &[u8]) -> Record
     }
 }
 
-fn low_byte(x: u32) -> u8
-    ensures { result ≡ x % 256 }
+// These bytes at `at`.
+fn write(out: &mut [u8], at: usize, bytes: &[u8])
+    requires { at + length bytes.now ≤ length out.old }
+    ensures { out.new ≡ sets out.old at bytes.now }
 {
-    (x % 256) as u8
-}
-
-// The two bytes of x at `at`, the lower first.
-fn write_u16(out: &mut [u8], at: usize, x: u16)
-    requires { at + 2 ≤ length out.old }
-    ensures { out.new ≡ sets out.old at (half_bytes x) }
-{
-    out[at] = (x % 256) as u8;
-    out[at + 1] = (x / 256) as u8;
-}
-
-// The four bytes of x at `at`, the lowest first.
-fn write_u32(out: &mut [u8], at: usize, x: u32)
-    requires { at + 4 ≤ length out.old }
-    ensures { out.new ≡ sets out.old at (word_bytes x) }
-{
-    out[at] = low_byte(x);
-    out[at + 1] = low_byte(x / 256);
-    out[at + 2] = low_byte(x / 65536);
-    out[at + 3] = (x / 16777216) as u8;
+    out[at..at + bytes.len()].copy_from_slice(bytes);
 }
 
 // The record r at `at`.
@@ -152,12 +128,12 @@ pub fn write_record(out: &mut [u8], at: usize, r: Record)
 {
     out[at + AT_KIND] = r.kind;
     out[at + AT_LEAF] = r.leaf;
-    write_u16(out, at + AT_COUNT, r.count);
+    write(out, at + AT_COUNT, &r.count.to_le_bytes());
     out[at + AT_UNBOUNDED] = r.unbounded;
     out[at + AT_ZERO] = r.zero;
-    write_u16(out, at + AT_SIZE, r.size);
-    write_u32(out, at + AT_MIN, r.min);
-    write_u32(out, at + AT_MAX, r.max);
+    write(out, at + AT_SIZE, &r.size.to_le_bytes());
+    write(out, at + AT_MIN, &r.min.to_le_bytes());
+    write(out, at + AT_MAX, &r.max.to_le_bytes());
 }
 
 // The item count of the record at `at`.
@@ -165,7 +141,7 @@ fn count_at(t: &[u8], at: usize) -> usize
     requires { at + record_size ≤ length t.now }
     ensures { result ≡ (record_at (drop at t.now)).count }
 {
-    read_u16(t, at + AT_COUNT) as usize
+    usize::from(read_u16(t, at + AT_COUNT))
 }
 
 // The record of a (1,1) sequence of n items.
@@ -188,16 +164,12 @@ pub fn sequence_of(n: u16) -> Record
 pub fn range(r: Record) -> Occurs
     ensures { result ≡ range_of r }
 {
-    if r.unbounded == 0 {
-        return Occurs {
-            min: r.min,
-            max: MaxOccurs::Bounded(r.max),
-        };
-    }
-    Occurs {
-        min: r.min,
-        max: MaxOccurs::Unbounded,
-    }
+    let max = if r.unbounded == 0 {
+        MaxOccurs::Bounded(r.max)
+    } else {
+        MaxOccurs::Unbounded
+    };
+    Occurs { min: r.min, max }
 }
 
 // Whether d's range is within b's.
@@ -211,10 +183,7 @@ pub fn range_ok(d: Occurs, b: Occurs) -> bool
 pub fn never(r: Record) -> bool
     ensures { result ≡ is_zero (range_of r).max }
 {
-    if r.unbounded != 0 {
-        return false;
-    }
-    r.max == 0
+    range(r).max == MaxOccurs::Bounded(0)
 }
 
 // How many records t has.

@@ -5,10 +5,10 @@ ghost use Rattle.particle.specs.Record.{record_size, max_records, record_at};
 ghost use Rattle.particle.specs.Tree.{tree};
 ghost use Rattle.particle.specs.Rows.{Row, items_part, later_part};
 ghost use Rattle.particle.specs.Empty.{emptiable};
-ghost use Rattle.particle.specs.Runs.{note_of, Run, RunIf, RowFound};
+ghost use Rattle.particle.specs.Runs.{Run, RunIf, RowFound};
 
 use crate::{
-    AT_SIZE, AT_ZERO, CHOICE, RECORD_SIZE, SEQUENCE, count_at, items, later, record_at, write_u16,
+    AT_SIZE, AT_ZERO, CHOICE, RECORD_SIZE, SEQUENCE, count_at, items, later, record_at, write,
 };
 
 // What is noted of a tree that is emptiable; of any other it is 0.
@@ -31,7 +31,7 @@ pub fn next(t: &[u8]) -> &[u8]
     if r.count == 0 {
         return items(t);
     }
-    let n = RECORD_SIZE * (r.size as usize);
+    let n = RECORD_SIZE * usize::from(r.size);
     &t[n..]
 }
 
@@ -96,13 +96,6 @@ fn found_emptiable(t: &[u8], x: Found) -> bool
     (r.min == 0) | ((r.kind >= SEQUENCE) & asked)
 }
 
-// What is noted where `empty` tells whether a tree is emptiable.
-fn noted(empty: bool) -> u8
-    ensures { result ≡ note_of empty }
-{
-    if empty { EMPTIABLE } else { 0 }
-}
-
 // Measures the tree of t: from the last record to the first, so that the items of a record are measured before it.
 pub fn measure(t: &mut [u8])
     requires row { Row 1 t.old }
@@ -115,8 +108,9 @@ pub fn measure(t: &mut [u8])
         let count = count_at(t, at);
         if 0 < count {
             let x = walk(&t[at + RECORD_SIZE..], count);
-            t[at + AT_ZERO] = noted(found_emptiable(&t[at..], x));
-            write_u16(t, at + AT_SIZE, (x.len / RECORD_SIZE + 1) as u16);
+            t[at + AT_ZERO] = u8::from(found_emptiable(&t[at..], x));
+            let size = (x.len / RECORD_SIZE + 1) as u16;
+            write(t, at + AT_SIZE, &size.to_le_bytes());
         }
     }
 }

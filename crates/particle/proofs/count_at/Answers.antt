@@ -5,4 +5,4 @@ use Rattle.particle.proofs.Records.{half_drop}
 use Rattle.particle.proofs.count_at.Goals as goal
 
 pub returns : goal.returns
-returns c = c.read_u16.ensures ∙ sym (half_drop c.args.at c.args.t.now at_count)
+returns c = c.from.ensures ∙ c.read_u16.ensures ∙ sym (half_drop c.args.at c.args.t.now at_count)

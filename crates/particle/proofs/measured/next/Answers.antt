@@ -10,10 +10,10 @@ pub returns-then-r-eq0 : goal.returns-then-r-eq0
 returns-then-r-eq0 c = search bare_later
 
 pub slice_bounds-result-count : goal.slice_bounds-result-count
-slice_bounds-result-count c = end_within _ ((search told_end))
+slice_bounds-result-count c = end_within _ (rw c.from-n.ensures (search told_end))
 
 pub slice_bounds-result-start : goal.slice_bounds-result-start
-slice_bounds-result-start c = end_within _ ((search told_end))
+slice_bounds-result-start c = end_within _ (rw c.from-n.ensures (search told_end))
 
 pub returns : goal.returns
-returns c = later_is _ ((search told_end))
+returns c = later_is _ (rw c.from-n.ensures (search told_end))
