@@ -26,12 +26,13 @@ abbrev counts_from : (c : List ℕ) (n i : ℕ) → List ℕ
 counts_from c n i = counts_in (n - i) (drop (count_at i) c)
 
 module _ (c : List ℕ) (n i : ℕ) where
-  counts_turn : i < n → counts_from c n i ≡ count_in (drop (count_at i) c) ∷ counts_from c n (i + 1)
+  -- the level i has k records
+  counts_turn : i < n → {k : ℕ} → k ≡ count_in (drop (count_at i) c) → counts_from c n i ≡ k ∷ counts_from c n (i + 1)
   unfolding counts_in
-  counts_turn h =
+  counts_turn h e =
       let q : n - i ≡ suc (n - (i + 1)) = omega arith in
       let d : count_at i + count_size ≡ count_at (i + 1) = omega arith in
-      rw (q, drop-drop count_size (count_at i) c, d)
+      rw (q, drop-drop count_size (count_at i) c, d, e)
 
   counts_none : n ≤ i → counts_from c n i ≡ []
   unfolding counts_in
@@ -64,38 +65,37 @@ pub record Counted (c : List ℕ) (n trees records i : ℕ) : Type 0 where
   pub trees_left : present_in (counts c) ≡ trees + present_in (counts_from c n i)
   pub records_left : sum (counts c) ≡ records + sum (counts_from c n i)
 
--- one level of n records
-pub no_tree : {n : ℕ} → n ≡ 0 → 0 ≡ present_in (n ∷ [])
+present_some : (k : ℕ) (ns : List ℕ) → (k ≡ 0 → ⊥) → present_in (k ∷ ns) ≡ suc (present_in ns)
 unfolding present_in
-no_tree e = rw e
-
-pub one_tree : (n : ℕ) → (n ≡ 0 → ⊥) → 1 ≡ present_in (n ∷ [])
-unfolding present_in
-one_tree zero h = absurd (h refl)
-one_tree (suc n) h = refl
-
-present_cons : (n : ℕ) (ns : List ℕ) → present_in (n ∷ ns) ≡ present_in (n ∷ []) + present_in ns
-unfolding present_in
-present_cons zero ns = omega arith
-present_cons (suc n) ns = omega arith
-
-module _ (c : List ℕ) {n : ℕ} (e : n ≡ level_count c) where
-  pub counted_start : Counted c n 0 0 0
-  counted_start = record { within = omega arith; few = omega arith; small = omega arith; trees_left = omega (arith, ap present_in (all_counts c e)); records_left = omega (arith, ap sum (all_counts c e)) }
+present_some zero ns z = absurd (z refl)
+present_some (suc k) ns z = refl
 
 module _ {c : List ℕ} {n trees records i : ℕ} (v : Counted c n trees records i) where
-  -- the level i has k records and so m trees
-  pub counted_next : i < n → {k : ℕ} → k ≡ count_in (drop (count_at i) c) → k < 65536 → {m : ℕ} → m ≡ present_in (k ∷ []) → m ≤ 1 → Counted c n (trees + m) (records + k) (i + 1)
-  unfolding sum
-  counted_next h {k} e small {m} f one =
-      let turn : counts_from c n i ≡ k ∷ counts_from c n (i + 1) = counts_turn c n i h ∙ ap (λ (x : ℕ). x ∷ counts_from c n (i + 1)) (sym e) in
-      record {
-        within = omega arith;
-        few = omega (arith, v.few);
-        small = omega (arith, v.small);
-        trees_left = omega (arith, v.trees_left, ap present_in turn, present_cons k (counts_from c n (i + 1)));
-        records_left = omega (arith, v.records_left, ap sum turn);
-      }
+  -- the level i has k records
+  module _ (h : i < n) {k : ℕ} (e : k ≡ count_in (drop (count_at i) c)) (low : k < 65536) where
+    pub absent_counted : k ≡ 0 → Counted c n trees (records + k) (i + 1)
+    unfolding sum present_in
+    absent_counted z =
+        let turn = counts_turn c n i h e in
+        record {
+          within = omega arith;
+          few = omega (arith, v.few);
+          small = omega (arith, v.small);
+          trees_left = v.trees_left ∙ ap (λ (ns : List ℕ). trees + present_in ns) (rw z at turn);
+          records_left = omega (arith, v.records_left, ap sum turn);
+        }
+
+    pub present_counted : (k ≡ 0 → ⊥) → Counted c n (trees + 1) (records + k) (i + 1)
+    unfolding sum
+    present_counted z =
+        let turn = counts_turn c n i h e in
+        record {
+          within = omega arith;
+          few = omega (arith, v.few);
+          small = omega (arith, v.small);
+          trees_left = omega (arith, v.trees_left, ap present_in turn, present_some k (counts_from c n (i + 1)) z);
+          records_left = omega (arith, v.records_left, ap sum turn);
+        }
 
   module _ (h : n ≤ i) where
     pub trees_counted : trees ≡ present_in (counts c)
@@ -135,7 +135,7 @@ levels_cons (suc k) ks rest l = rw (ne_eqb (length (take (record_size * suc k) r
 
 module _ {c : List ℕ} {n : ℕ} {rest : List ℕ} {i : ℕ} (v : LevelsLeft c n rest i) (h : i < n) {k : ℕ} (e : k ≡ count_in (drop (count_at i) c)) where
   turn : counts_from c n i ≡ k ∷ counts_from c n (i + 1)
-  turn = counts_turn c n i h ∙ ap (λ (x : ℕ). x ∷ counts_from c n (i + 1)) (sym e)
+  turn = counts_turn c n i h e
 
   pub level_within : record_size * k ≤ length rest
   unfolding sum

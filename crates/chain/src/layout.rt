@@ -21,18 +21,12 @@ pub struct Content {
     pub records: usize,
 }
 
-fn wide(x: u8) -> usize
-    ensures { (result ≡ x) × (result < 256) }
-{
-    x as usize
-}
-
 // How many levels the chain has.
 pub fn level_count(c: &[u8]) -> usize
     requires { 1 ≤ length c.now }
     ensures { (result ≡ level_count c.now) × (result < 256) }
 {
-    wide(c[0])
+    usize::from(c[0])
 }
 
 // Where the count of the level i stands, from 0; after the last level, where the trees start.
@@ -52,36 +46,28 @@ pub fn count(c: &[u8], i: usize) -> usize
     particle::read_u16(c, count_at(i)) as usize
 }
 
-// How many trees a level of n records has.
-fn tree_count(n: usize) -> usize
-    ensures { (result ≡ present_in (n ∷ [])) × (result ≤ 1) }
-{
-    if n == 0 { 0 } else { 1 }
-}
-
 // How many trees and records the counts give.
 pub fn contained(c: &[u8]) -> Content
     requires { count_at (level_count c.now) ≤ length c.now }
     ensures trees_value { (result.trees ≡ present_in (counts c.now)) × (result.records ≡ sum (counts c.now)) }
     ensures trees_bound { (result.trees < 256) × (result.records < 2 ^ 24) }
 {
-    let n = level_count(c);
-    let mut trees: usize = 0;
-    let mut records: usize = 0;
-    let mut i: usize = 0;
-    while i < n {
-        let k = count(c, i);
-        trees += tree_count(k);
-        records += k;
-        i += 1;
+    let mut all = Content {
+        trees: 0,
+        records: 0,
+    };
+    for i in 0..level_count(c) {
+        let n = count(c, i);
+        if n != 0 {
+            all.trees += 1;
+        }
+        all.records += n;
     }
-    Content {
-        trees: trees,
-        records: records,
-    }
+    all
 }
 
 // Whether the chain has 1 to MAX_LEVELS levels, and the length that their counts give.
+#[tactic(auto, unfolding(crate::specs::Answer::chain_ok))]
 pub fn chain_ok(c: &[u8]) -> bool
     ensures { result ≡ chain_ok c.now }
 {
@@ -89,18 +75,11 @@ pub fn chain_ok(c: &[u8]) -> bool
         return false;
     }
     let n = level_count(c);
-    if n < 1 {
-        return false;
-    }
-    if MAX_LEVELS < n {
-        return false;
-    }
     let start = count_at(n);
-    if c.len() < start {
-        return false;
-    }
-    let all = contained(c);
-    c.len() == start + RECORD_SIZE * all.records
+    1 <= n
+        && n <= MAX_LEVELS
+        && start <= c.len()
+        && c.len() == start + RECORD_SIZE * contained(c).records
 }
 
 // The part of the chain with its trees.
