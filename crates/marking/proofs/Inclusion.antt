@@ -1,4 +1,5 @@
 -- Demand 3 over sheets, second half: a sheet that passes has a derived tree that allows no more than its base tree. Assumes nothing.
+use Rattle.std.specs.Prelude.{Ok}
 use mathlib.Core.Bool.{Bool, true, false, cond, ◌&&◌, ◌||◌, false≢true}
 use mathlib.Core.List.{List}
 use mathlib.Core.Path.{◌≡◌, refl, ap, sym, ◌∙◌}
@@ -19,7 +20,6 @@ use Rattle.language.specs.Language.{AtMost}
 use Rattle.language.specs.Premises.{BelowRoot, Throughout, Ordered, NoZeroMaximum, NoEmptyChoice}
 use Rattle.rules.specs.Demand.{LeafKnown, NeededDerived, NeededBase}
 use Rattle.rules.proofs.Inclusion.{needed_includes}
-use Rattle.intake.specs.declared.Checked.TheVariants.{Accepted}
 use Rattle.intake.specs.Faults.{leaf_ok, fault_of}
 use Rattle.intake.specs.Scan.{refusal_in}
 use Rattle.intake.proofs.Steps.{clean}
@@ -79,7 +79,7 @@ module _ {s : List ℕ} (a : Passed s) where
   leaf_known (suc (suc (suc zero))) l p c d e = tt
   leaf_known (suc (suc (suc (suc k)))) l p c d e = tt
 
-  record_known : (r : Record) (depth : ℕ) (in_all : Bool) → fault_of (known_in s) r depth in_all ≡ Accepted → LeafKnown (sheet_leaves s) (head_of r)
+  record_known : (r : Record) (depth : ℕ) (in_all : Bool) → fault_of (known_in s) r depth in_all ≡ Ok tt → LeafKnown (sheet_leaves s) (head_of r)
   record_known r depth in_all e =
       let fields = (and-true (leb r.kind 4) _ (clean (known_in s) r depth in_all e).fields).1 in
       leaf_known r.kind r.leaf (range_of r) (eqb r.count 0) (eqb r.leaf 0) (and-true (leaf_ok (known_in s) r) _ fields).0
@@ -88,13 +88,13 @@ module _ {s : List ℕ} (a : Passed s) where
   in_order zero min max e = leb-true min max e
   in_order (suc mark) min max e = tt
 
-  record_ordered : (r : Record) (depth : ℕ) (in_all : Bool) → fault_of (known_in s) r depth in_all ≡ Accepted → AtMost (pair_of (head_of r)).min (pair_of (head_of r)).max
+  record_ordered : (r : Record) (depth : ℕ) (in_all : Bool) → fault_of (known_in s) r depth in_all ≡ Ok tt → AtMost (pair_of (head_of r)).min (pair_of (head_of r)).max
   record_ordered r depth in_all e = rw (pair_record r) (in_order r.unbounded r.min r.max (clean (known_in s) r depth in_all e).pair)
 
-  all_known : (t : List ℕ) → refusal_in (known_in s) t ≡ Accepted → Throughout (λ h k. LeafKnown (sheet_leaves s) h) (tree t)
+  all_known : (t : List ℕ) → refusal_in (known_in s) t ≡ Ok tt → Throughout (λ h k. LeafKnown (sheet_leaves s) h) (tree t)
   all_known = accepted_throughout (known_in s) (LeafKnown (sheet_leaves s)) record_known
 
-  all_ordered : (t : List ℕ) → refusal_in (known_in s) t ≡ Accepted → Throughout Ordered (tree t)
+  all_ordered : (t : List ℕ) → refusal_in (known_in s) t ≡ Ok tt → Throughout Ordered (tree t)
   all_ordered = accepted_throughout (known_in s) (λ h. AtMost (pair_of h).min (pair_of h).max) record_ordered
 
 -- of the derived tree no zero maximum below the root is needed, of the base tree no empty choice

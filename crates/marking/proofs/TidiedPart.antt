@@ -1,47 +1,34 @@
 -- The buffers of the marking: how long they are, and the trees that are tidied into them. Assumes nothing.
-use mathlib.Core.Bool.{Bool, true}
+use Rattle.std.specs.Prelude.{Ok}
 use mathlib.Core.List.{List, ◌++◌}
 use mathlib.Core.Path.{◌≡◌, ap, sym, ◌∙◌}
 use Prim.Native.Nat.{ℕ, ◌*◌, ◌≤◌}
 use native.Mathlib.Omega.{arith}
-use lib.Dec.{leb}
-use borrow.Author.Tests.{leb-true}
 use lib.ListN.{length, take, drop, length-append}
 use lib.Seq.{length-take-le, take_at}
 use Rattle.particle.specs.Record.{record_size, max_records}
 use Rattle.particle.specs.Tree.{tree}
 use Rattle.particle.specs.Rows.{Row}
 use Rattle.particle.specs.Runs.{Run}
-use Rattle.particle.proofs.Tests.{and-true}
 use Rattle.particle.proofs.Encoded.{encoded_row, encoded_tree}
 use Rattle.tidying.specs.Tidy.{tidy}
 use Rattle.tidying.specs.Laid.{StartsWith}
-use Rattle.sheet.specs.declared.SheetChecked.TheVariants.{Accepted}
 use Rattle.sheet.specs.Layout.{derived_part, base_part}
 use Rattle.sheet.specs.Refused.{sheet_refusal}
 use Rattle.sheet.proofs.AcceptedSheet.{passed, derived_few, base_few}
-use Rattle.marking.specs.Buffers.{Buffer, Prepared, both_fit}
+use Rattle.marking.specs.Buffers.{Buffer, Prepared, BothFit}
 
--- where both trees of a sheet have at most n bytes, an array of n bytes is a buffer for either
-module _ (s : List ℕ) {n : ℕ} {r : Bool} (e : r ≡ both_fit s n) (t : r ≡ true) where
-  fit : (length (derived_part s) ≤ n) × (length (base_part s) ≤ n)
-  fit =
-      let b = and-true (leb (length (derived_part s)) n) (leb (length (base_part s)) n) (sym e ∙ t) in
-      (leb-true (length (derived_part s)) n b.0, leb-true (length (base_part s)) n b.1)
-
-  pub derived_fits : n ≤ record_size * max_records → {out : List ℕ} → length out ≡ n → Buffer (derived_part s) out
-  derived_fits most l = record { room = omega (arith, fit.0); most = omega arith }
-
-  pub base_fits : n ≤ record_size * max_records → {out : List ℕ} → length out ≡ n → Buffer (base_part s) out
-  base_fits most l = record { room = omega (arith, fit.1); most = omega arith }
-
--- and one as long as the longest tree always is
-module _ (s : List ℕ) (a : sheet_refusal s ≡ Accepted) {out : List ℕ} (l : length out ≡ record_size * max_records) where
+-- an array of so many bytes is a buffer for either tree
+module _ {s : List ℕ} {n : ℕ} (f : BothFit s n) {out : List ℕ} (l : length out ≡ n) where
   pub derived_buffer : Buffer (derived_part s) out
-  derived_buffer = record { room = omega (arith, derived_few (passed s a)); most = omega arith }
+  derived_buffer = record { room = omega (arith, f.derived); most = omega (arith, f.most) }
 
   pub base_buffer : Buffer (base_part s) out
-  base_buffer = record { room = omega (arith, base_few (passed s a)); most = omega arith }
+  base_buffer = record { room = omega (arith, f.base); most = omega (arith, f.most) }
+
+-- as long as the longest tree, it always is
+pub longest_fits : (s : List ℕ) → sheet_refusal s ≡ Ok tt → BothFit s (record_size * max_records)
+longest_fits s a = record { derived = derived_few (passed s a); base = base_few (passed s a); most = omega arith }
 
 pub has_room : {t p out : List ℕ} → t ≡ p → Buffer p out → length t ≤ length out
 has_room e b = rw e b.room

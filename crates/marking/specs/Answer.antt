@@ -1,5 +1,5 @@
 -- What marking a sheet answers. Assumes nothing: these are definitions.
-use Rattle.std.specs.Prelude.{List, ◌≡◌, ℕ, ◌≤◌}
+use Rattle.std.specs.Prelude.{List, ◌≡◌, ℕ, ◌≤◌, Result, Ok, Err}
 use Rattle.particle.specs.Tree.{Particle, tree}
 use Rattle.intake.specs.Number.{refusal_number}
 use Rattle.rules.specs.Verdicts.{Mark, passes, undecided, fails, Leaves, Tables}
@@ -8,8 +8,7 @@ use Rattle.verdicts.specs.Paper.{leaves_of, tables_of}
 use Rattle.verdicts.specs.declared.Reason.TheVariants.{Set}
 use Rattle.verdicts.specs.Reasons.{reason_number}
 use Rattle.entries.specs.Answer.{Answer, gives, refused}
-use Rattle.sheet.specs.declared.SheetChecked.{SheetChecked}
-use Rattle.sheet.specs.declared.SheetChecked.TheVariants as checked
+use Rattle.intake.specs.declared.Refusal.{Refusal}
 use Rattle.marking.specs.declared.MarkAnswer.{MarkAnswer}
 use Rattle.marking.specs.declared.MarkAnswer.TheVariants.{Passes, Undecided, Fails, Refused}
 use Rattle.sheet.specs.Layout.{leaf_count, leaves_part, tables_part, derived_part, base_part}
@@ -33,9 +32,9 @@ unfoldable pub mark_of_sheet : List ℕ → Mark
 mark_of_sheet s = mark (sheet_leaves s) (sheet_tables s) (derived_tree s) (base_tree s)
 
 -- the mark, or the refusal's number
-abbrev pub answer_of : SheetChecked → Mark → Answer Mark
-answer_of checked.Accepted m = gives m
-answer_of (checked.Refused r) m = refused (refusal_number r)
+abbrev pub answer_of : Result (Unit {0}) Refusal → Mark → Answer Mark
+answer_of (Ok _) m = gives m
+answer_of (Err r) m = refused (refusal_number r)
 
 unfoldable pub mark_sheet : List ℕ → Answer Mark
 mark_sheet s = answer_of (sheet_refusal s) (mark_of_sheet s)

@@ -1,5 +1,5 @@
 -- The buffers that trees are tidied into, and what stands there afterwards. Assumes nothing: these are definitions.
-use Rattle.std.specs.Prelude.{Bool, ◌&&◌, List, ◌≡◌, ℕ, ◌*◌, ◌≤◌, leb, length, take}
+use Rattle.std.specs.Prelude.{List, ◌≡◌, ℕ, ◌*◌, ◌≤◌, length, take}
 use Rattle.particle.specs.Record.{record_size, max_records}
 use Rattle.particle.specs.Tree.{tree}
 use Rattle.particle.specs.Runs.{Run}
@@ -17,6 +17,8 @@ pub record Prepared (t out : List ℕ) (end : ℕ) : Type 0 where
   pub run : Run 1 (take end out)
   pub same : tree (take end out) ≡ tidy (tree t)
 
--- both trees of the sheet s have at most n bytes
-abbrev pub both_fit : (s : List ℕ) (n : ℕ) → Bool
-both_fit s n = leb (length (derived_part s)) n && leb (length (base_part s)) n
+-- n bytes are room for either tree of the sheet s, and no more than the longest tree has
+pub record BothFit (s : List ℕ) (n : ℕ) : Type 0 where
+  pub derived : length (derived_part s) ≤ n
+  pub base : length (base_part s) ≤ n
+  pub most : n ≤ record_size * max_records

@@ -1,19 +1,13 @@
 -- `marking::mark_in` meets its contract: both trees stand tidied and measured in the buffers. Assumes nothing.
 use Rattle.marking.proofs.TidiedPart.{tidied_row, prepared}
-use Rattle.marking.proofs.Marking.{accepted_mark, contents_ok_lem, contents_whole, derived_whole, derived_exact, base_whole, base_exact}
+use Rattle.marking.proofs.Marking.{accepted_mark, derived_whole, derived_exact, base_whole, base_exact}
 use Rattle.marking.proofs.mark_in.Goals as goal
-
-pub derived-requires : goal.derived-requires
-derived-requires c = search contents_ok_lem
 
 pub normalize_in-d-requires-clause-row : goal.normalize_in-d-requires-clause-row
 normalize_in-d-requires-clause-row c = search derived_whole
 
 pub normalize_in-d-requires-clause-faithful : goal.normalize_in-d-requires-clause-faithful
 normalize_in-d-requires-clause-faithful c = search derived_exact
-
-pub base-requires : goal.base-requires
-base-requires c = search contents_ok_lem
 
 pub normalize_in-b-requires-clause-row : goal.normalize_in-b-requires-clause-row
 normalize_in-b-requires-clause-row c = search base_whole
@@ -27,20 +21,11 @@ measure-requires-clause-row c = search tidied_row
 pub measure-requires-2-clause-row : goal.measure-requires-2-clause-row
 measure-requires-2-clause-row c = search tidied_row
 
-pub leaves-requires : goal.leaves-requires
-leaves-requires c = search contents_ok_lem
+pub mark_tidied-requires-clause-d_run : goal.mark_tidied-requires-clause-d_run
+mark_tidied-requires-clause-d_run c = (prepared _ c.normalize_in-d.ensures {s = c.measure.new.t} c.measure.auto.t c.measure.ensures).run
 
-pub tables-requires : goal.tables-requires
-tables-requires c = search contents_ok_lem
-
-pub leaf_count-requires : goal.leaf_count-requires
-leaf_count-requires c = search contents_whole
-
-pub mark_tidied-requires-clause-run : goal.mark_tidied-requires-clause-run
-mark_tidied-requires-clause-run c = (prepared _ c.normalize_in-d.ensures {s = c.measure.new.t} c.measure.auto.t c.measure.ensures).run
-
-pub mark_tidied-requires-clause-run_2 : goal.mark_tidied-requires-clause-run_2
-mark_tidied-requires-clause-run_2 c = (prepared _ c.normalize_in-b.ensures {s = c.measure-2.new.t} c.measure-2.auto.t c.measure-2.ensures).run
+pub mark_tidied-requires-clause-b_run : goal.mark_tidied-requires-clause-b_run
+mark_tidied-requires-clause-b_run c = (prepared _ c.normalize_in-b.ensures {s = c.measure-2.new.t} c.measure-2.auto.t c.measure-2.ensures).run
 
 pub returns : goal.returns
 returns c =
