@@ -2,10 +2,10 @@
 use mathlib.Core.Path.{◌≡◌, refl, ap, sym, ◌∙◌}
 use mathlib.Core.List.{List, [], ◌∷◌, ◌++◌, append-nil, append_assoc}
 use Prim.Native.Nat.{ℕ, suc, ◌+◌, ◌*◌, ◌-◌, ◌≤◌, ◌<◌}
-use native.Mathlib.Nat.{zero-add, suc-mul, zero-mul, le_refl}
+use native.Mathlib.Nat.{suc-mul, zero-mul, sub-zero, mul-le-mul_right, le_refl}
 use native.Mathlib.Numerals.{add-one}
 use native.Mathlib.Omega.{arith}
-use lib.ListN.{length, get_or, take, drop, set, length-append, length-set, length-take, length-drop}
+use lib.ListN.{length, get_or, take, drop, set, length-append, length-set, length-drop}
 use lib.Seq.{drop-cons, drop-length, take-suc-set, append_snoc, drop-set-lt, take_all, take_at, drop_at, length-take-le}
 use borrow.Rule.Slice.PartMut.{mid_of, put_mid}
 use mir.Syntax.{w64}
@@ -52,64 +52,59 @@ module _ (f : (m v : ℕ) → ℕ) (before : List ℕ) where
         let q : m ≡ length row = omega (arith, r.within) in
         sym (sym r.rest ∙ rw (q, take_all (length row) row (le_refl (length row)), drop-length row, append-nil row))
 
--- a part that ends n after its start has at most n verdicts
-pub row_short : (table : List ℕ) (at n : ℕ) → length (take (at + n - at) (drop at table)) ≤ n
-row_short table at n = omega (arith, length-take (at + n - at) (drop at table))
-
 -- A table ----------------------------------------------------------------------
 
--- the first l rows of the table are changed, up to the place `at`, and with the others changed it is the whole
-pub record TableLeft (f : (l m v : ℕ) → ℕ) (n : ℕ) (before table : List ℕ) (at l : ℕ) : Type 0 where
-  pub within : l ≤ n
+-- the first l rows of the table are changed, and with the others changed it is the whole
+pub record TableLeft (f : (l m v : ℕ) → ℕ) (n : ℕ) (before table : List ℕ) (l : ℕ) : Type 0 where
   pub same_size : length table ≡ length before
-  pub size : length table ≡ at + (n - l) * n
-  pub rest : take at table ++ fill_rows f n l (n - l) (drop at table) ≡ fill_rows f n 0 n before
+  pub size : length table ≡ n * n
+  pub rest : take (l * n) table ++ fill_rows f n l (n - l) (drop (l * n) table) ≡ fill_rows f n 0 n before
+
+-- where n rows of n verdicts lie in a table, so does the row l
+pub row_ends : (l n : ℕ) → l < n → l * n + n ≤ n * n
+row_ends l n h = omega (arith, mul-le-mul_right n h, suc-mul l n)
 
 module _ (f : (l m v : ℕ) → ℕ) (n : ℕ) (before : List ℕ) where
-  pub table_start : length before ≡ n * n → TableLeft f n before before 0 0
-  table_start e =
-      let z : n - 0 ≡ n = omega arith in
-      record { within = omega arith; same_size = refl; size = rw z (e ∙ sym (zero-add (n * n))); rest = rw z }
+  pub table_start : length before ≡ n * n → TableLeft f n before before 0
+  table_start e = record { same_size = refl; size = e; rest = rw (zero-mul n, sub-zero n) }
 
-  module _ (table : List ℕ) (at l : ℕ) (t : TableLeft f n before table at l) where
-    left : l < n → n - l ≡ suc (n - (l + 1))
-    left h = omega arith
+  module _ (table : List ℕ) (l : ℕ) (t : TableLeft f n before table l) where
+    pub row_within : l < n → l * n + n ≤ length table
+    row_within h = omega (arith, t.size, row_ends l n h)
 
-    pub row_within : l < n → at + n ≤ length table
-    row_within h = omega (arith, t.size ∙ ap (λ (k : ℕ). at + k * n) (left h), suc-mul (n - (l + 1)) n)
+    pub row_fits : l < n → Fits w64 (length before) → Fits w64 (l * n + n)
+    row_fits h k = omega (arith, row_within h, t.same_size, k)
 
-    pub row_end_fits : l < n → Fits w64 (length before) → Fits w64 (at + n)
-    row_end_fits h k = omega (arith, row_within h, t.same_size, k)
-
-    pub rows_less : l < n → n - (l + 1) < n - l
-    rows_less h = omega arith
+    pub row_start_fits : l < n → Fits w64 (length before) → Fits w64 (l * n)
+    row_start_fits h k = omega (arith, row_fits h k)
 
     -- the row l was lent and is `row` now
-    pub table_next : l < n → {row : List ℕ} → row ≡ fill_row (f l) 0 (mid_of at (at + n - at) table) → TableLeft f n before (put_mid at (at + n - at) table row) (at + n) (l + 1)
+    pub table_next : l < n → {row : List ℕ} → row ≡ fill_row (f l) 0 (mid_of (l * n) (l * n + n - l * n) table) → TableLeft f n before (put_mid (l * n) (l * n + n - l * n) table row) (l + 1)
     unfolding fill_rows
     table_next h {row} g =
+        let at = l * n in
+        let next : (l + 1) * n ≡ l * n + n = omega (arith, suc-mul l n) in
         let in_table = row_within h in
-        let step : at + n - at ≡ n = omega arith in
-        let q : row ≡ fill_row (f l) 0 (take n (drop at table)) = rw step at g in
-        let front : length (take at table) ≡ at = length-take-le at table (omega arith) in
-        let width : length row ≡ n = ap length q ∙ (length_row (f l) 0 (take n (drop at table)) ∙ length-take-le n (drop at table) (omega (arith, length-drop at table))) in
-        let both : length (take at table ++ row) ≡ at + n = omega (arith, length-append (take at table) row) in
-        let whole : put_mid at (at + n - at) table row ≡ (take at table ++ row) ++ drop n (drop at table) = rw step (sym (append_assoc (take at table) row (drop n (drop at table)))) in
-        let many : length table ≡ at + suc (n - (l + 1)) * n = t.size ∙ ap (λ (k : ℕ). at + k * n) (left h) in
-        let long : length (put_mid at (at + n - at) table row) ≡ length table = ap length whole ∙ omega (arith, length-append (take at table ++ row) (drop n (drop at table)), length-drop n (drop at table), length-drop at table) in
+        let step : l * n + n - l * n ≡ n = omega arith in
+        let q : row ≡ fill_row (f l) 0 (take n (drop (l * n) table)) = rw step at g in
+        let front : length (take (l * n) table) ≡ l * n = length-take-le (l * n) table (omega arith) in
+        let width : length row ≡ n = ap length q ∙ (length_row (f l) 0 (take n (drop (l * n) table)) ∙ length-take-le n (drop (l * n) table) (omega (arith, length-drop (l * n) table))) in
+        let both : length (take (l * n) table ++ row) ≡ l * n + n = omega (arith, length-append (take (l * n) table) row) in
+        let whole : put_mid (l * n) (l * n + n - l * n) table row ≡ (take (l * n) table ++ row) ++ drop n (drop (l * n) table) = rw step (sym (append_assoc (take (l * n) table) row (drop n (drop (l * n) table)))) in
+        let long : length (put_mid (l * n) (l * n + n - l * n) table row) ≡ length table = ap length whole ∙ omega (arith, length-append (take (l * n) table ++ row) (drop n (drop (l * n) table)), length-drop n (drop (l * n) table), length-drop (l * n) table) in
+        let left : n - l ≡ suc (n - (l + 1)) = omega arith in
         record {
-          within = omega arith;
           same_size = long ∙ t.same_size;
-          size = omega (arith, long, many, suc-mul (n - (l + 1)) n);
+          size = long ∙ t.size;
           rest =
-              rw (whole, take_at (take at table ++ row) (drop n (drop at table)) (at + n) both, drop_at (take at table ++ row) (drop n (drop at table)) (at + n) both, append_assoc (take at table) row, q, add-one l)
-              (rw (left h, add-one l) at t.rest);
+              rw (next, whole, take_at (take (l * n) table ++ row) (drop n (drop (l * n) table)) (l * n + n) both, drop_at (take (l * n) table ++ row) (drop n (drop (l * n) table)) (l * n + n) both, append_assoc (take (l * n) table) row, q, add-one l)
+              (rw (left, add-one l) at t.rest);
         }
 
-    pub table_done : n ≤ l → table ≡ fill_rows f n 0 n before
+    pub table_done : n ≤ l → l ≤ n → table ≡ fill_rows f n 0 n before
     unfolding fill_rows
-    table_done h =
-        let q : l ≡ n = omega (arith, t.within) in
+    table_done h g =
+        let q : l ≡ n = omega arith in
         let z : n - l ≡ 0 = omega arith in
-        let s : length table ≡ at = t.size ∙ (ap (λ (k : ℕ). at + k * n) z ∙ omega (arith, zero-mul n)) in
-        sym (sym t.rest ∙ rw (z, sym s, take_all (length table) table (le_refl (length table)), append-nil table))
+        let s : l * n ≡ length table = ap (λ (k : ℕ). k * n) q ∙ sym t.size in
+        sym (sym t.rest ∙ rw (z, s, take_all (length table) table (le_refl (length table)), append-nil table))

@@ -23,17 +23,11 @@ fn type_ok(parents: &[u8], kind: u8, t: u8) -> bool
 pub fn types_ok(parents: &[u8], kinds: &[u8], types: &[u8]) -> bool
     ensures { result ≡ types_ok parents.now kinds.now types.now }
 {
-    if types.len() != kinds.len() {
-        return false;
-    }
-    let mut i: usize = 0;
-    while i < kinds.len() {
-        if !type_ok(parents, kinds[i], types[i]) {
-            return false;
-        }
-        i += 1;
-    }
-    true
+    types.len() == kinds.len()
+        && kinds
+            .iter()
+            .zip(types)
+            .all(|(kind, t)| type_ok(parents, *kind, *t))
 }
 
 // The verdict v of the row l and the column m, filled in.
@@ -62,10 +56,8 @@ fn fill_row(row: &mut [u8], l: usize, parents: &[u8], kinds: &[u8], types: &[u8]
     requires types_len { length types.now ≡ length kinds.now }
     ensures { row.new ≡ fill_row (fill_verdict parents.now kinds.now types.now l) 0 row.old }
 {
-    let mut m: usize = 0;
-    while m < row.len() {
-        row[m] = filled(parents, kinds, types, l, m, row[m]);
-        m += 1;
+    for (m, v) in row.iter_mut().enumerate() {
+        *v = filled(parents, kinds, types, l, m, *v);
     }
 }
 
@@ -77,13 +69,10 @@ fn fill_second(table: &mut [u8], parents: &[u8], kinds: &[u8], types: &[u8])
     ensures { table.new ≡ fill_rows (fill_verdict parents.now kinds.now types.now) (length kinds.now) 0 (length kinds.now) table.old }
 {
     let n = kinds.len();
-    let mut at: usize = 0;
-    let mut l: usize = 0;
-    while l < n {
-        let end = at + n;
-        fill_row(&mut table[at..end], l, parents, kinds, types);
-        at = end;
-        l += 1;
+    // By range: a proof would know no element of what `chunks_exact_mut` lent.
+    for l in 0..n {
+        let at = l * n;
+        fill_row(&mut table[at..at + n], l, parents, kinds, types);
     }
 }
 

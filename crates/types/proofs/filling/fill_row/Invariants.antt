@@ -1,12 +1,7 @@
 -- `filling::fill_row` meets its contract. Assumes nothing.
-use Prim.Native.Nat.{◌-◌}
-use lib.ListN.{length}
 use Rattle.types.specs.Fill.{fill_verdict}
 use Rattle.types.proofs.Rows.{RowLeft}
 use Rattle.types.proofs.filling.fill_row.Given as goal
 
 abbrev pub invariant-loop-m : goal.invariant-loop-m
 invariant-loop-m l = RowLeft (fill_verdict l.parents l.kinds l.types l.l) l.initial.row l.row l.m
-
-abbrev pub decreases-loop-m : goal.decreases-loop-m
-decreases-loop-m l = length l.initial.row - l.m

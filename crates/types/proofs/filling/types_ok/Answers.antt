@@ -1,22 +1,18 @@
 -- `filling::types_ok` meets its contract. Assumes nothing.
-use native.Mathlib.Omega.{arith}
-use Rattle.types.proofs.Steps.{not_so_many, types_start, type_within, type_bad, type_next, types_done}
+use Rattle.std.proofs.Common.{◌∙◌, not, ◌||◌, ℕ, rules, tests}
+use Rattle.std.proofs.lemmas.Iterator.{YieldsList-from_slice, YieldsList-from_zip}
+use Rattle.std.proofs.lemmas.Iterator.Search.{all_from_yields_List}
+use Rattle.types.specs.Derives.{has_type}
+use Rattle.types.specs.Fill.{is_element}
+use Rattle.types.proofs.Steps.{each_type, not_so_many}
 use Rattle.types.proofs.filling.types_ok.Goals as goal
 
 pub returns-then-types-kinds : goal.returns-then-types-kinds
-returns-then-types-kinds c = not_so_many _ _ _ (λ e. omega arith)
+returns-then-types-kinds c =
+    all_from_yields_List (λ (p : ℕ × ℕ). not (is_element p.0) || has_type c.args.parents.now p.1) c.all.new.self _ _ c.all.ensures.ran
+    (YieldsList-from_zip (YieldsList-from_slice c.args.kinds.now (cc)) (YieldsList-from_slice c.args.types.now (cc)))
+    (λ x b q k. search (rules, tests))
+    ∙ each_type c.args.parents.now c.args.kinds.now c.args.types.now (search rules)
 
-pub loop-i-init : goal.loop-i-init
-loop-i-init c = search types_start
-
-pub bounds-types-i : goal.bounds-types-i
-bounds-types-i c = search type_within
-
-pub returns-then-not-type_ok : goal.returns-then-not-type_ok
-returns-then-not-type_ok c = search type_bad
-
-pub loop-i-preserved : goal.loop-i-preserved
-loop-i-preserved c = search type_next
-
-pub returns : goal.returns
-returns c = search types_done
+pub returns-else-types-kinds : goal.returns-else-types-kinds
+returns-else-types-kinds c = search (rules, not_so_many)
