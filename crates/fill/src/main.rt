@@ -5,7 +5,6 @@
 
 use std::io;
 use streams::ROOM;
-use types::FilledAnswer;
 
 fn print_filled(
     out: &impl Print,
@@ -14,8 +13,8 @@ fn print_filled(
     numbers: &[u8],
 ) -> io::Result<()> {
     match types::fill_types(sheet, numbers) {
-        FilledAnswer::Filled => out.write_all(sheet),
-        FilledAnswer::Refused(r) => streams::print_refused(err, r),
+        Ok(()) => out.write_all(sheet),
+        Err(r) => streams::print_refused(err, r),
     }
 }
 

@@ -5,7 +5,6 @@
 
 use std::io;
 use streams::ROOM;
-use types::FilledAnswer;
 
 fn print_filled(
     out: &impl Print,
@@ -15,8 +14,8 @@ fn print_filled(
     parents: &[u8],
 ) -> io::Result<()> {
     match types::fill_types_by(sheet, numbers, parents) {
-        FilledAnswer::Filled => out.write_all(sheet),
-        FilledAnswer::Refused(r) => streams::print_refused(err, r),
+        Ok(()) => out.write_all(sheet),
+        Err(r) => streams::print_refused(err, r),
     }
 }
 

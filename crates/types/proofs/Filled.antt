@@ -7,8 +7,8 @@ use native.Mathlib.Nat.{zero-add}
 use native.Mathlib.Omega.{arith}
 use lib.ListN.{length, get_or, take, drop}
 use Rattle.entries.specs.Answer.{Answer, gives, refused}
-use Rattle.sheet.specs.declared.SheetChecked.{SheetChecked}
-use Rattle.sheet.specs.declared.SheetChecked.TheVariants.{Accepted, Refused}
+use Rattle.intake.specs.declared.Refusal.{Refusal}
+use Rattle.std.specs.Prelude.{Result, Ok, Err}
 use Rattle.sheet.specs.Layout.{leaf_count, second_at, derived_at, leaves_in, second_part}
 use Rattle.sheet.specs.Refused.{kinds_of, sheet_refusal}
 use Rattle.marking.specs.Demand.{FilledSheet, unchanged}
@@ -19,13 +19,14 @@ use Rattle.types.specs.Answer.{fill_or, fill_answer, filled_sheet}
 use Rattle.types.specs.Facts.{Fills, EachFilled, FilledTwice, FilledAccepted, FilledIsFilledIn, FilledKeepsMark}
 use Rattle.types.proofs.Cells.{rows_cell, rows_twice}
 use Rattle.types.proofs.Verdicts.{fill_twice}
-use Rattle.types.proofs.Entry.{contents_ok_lem, length_second}
+use Rattle.marking.proofs.Marking.{contents_ok_lem}
+use Rattle.types.proofs.Entry.{length_second}
 use Rattle.types.proofs.FilledIn.{front, middle, back, filled_in}
 
-fills_accepted : (n : ℕ) (table : Bool) (c : SheetChecked) (ok : Bool) → cond table (fill_or c ok) (refused n) ≡ gives tt → c ≡ Accepted
-fills_accepted n table Accepted ok e = refl
-fills_accepted n true (Refused r) ok e = absurd (let z : ◌≡◌ {A = ℕ} 0 1 = cc in omega arith)
-fills_accepted n false (Refused r) ok e = absurd (let z : ◌≡◌ {A = ℕ} 0 1 = cc in omega arith)
+fills_accepted : (n : ℕ) (table : Bool) (c : Result (Unit {0}) Refusal) (ok : Bool) → cond table (fill_or c ok) (refused n) ≡ gives tt → c ≡ Ok tt
+fills_accepted n table (Ok _) ok e = refl
+fills_accepted n true (Err r) ok e = absurd (let z : ◌≡◌ {A = ℕ} 0 1 = cc in omega arith)
+fills_accepted n false (Err r) ok e = absurd (let z : ◌≡◌ {A = ℕ} 0 1 = cc in omega arith)
 
 written_by : (parents s types : List ℕ) → Fills parents s types → filled_sheet parents s types ≡ fill_sheet parents s types
 unfolding filled_sheet
@@ -39,7 +40,7 @@ module _ (parents s types : List ℕ) where
   abbrev after : List ℕ
   after = filled_sheet parents s types
 
-  pub sheet_accepted : Fills parents s types → sheet_refusal s ≡ Accepted
+  pub sheet_accepted : Fills parents s types → sheet_refusal s ≡ Ok tt
   unfolding fill_answer
   sheet_accepted e = fills_accepted _ (table_ok parents) (sheet_refusal s) (types_ok parents (leaf_kinds s) types) e
 

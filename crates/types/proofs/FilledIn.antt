@@ -9,7 +9,7 @@ use lib.Dec.{leb}
 use lib.ListN.{length, get_or, take, drop, take-append-drop}
 use lib.Seq.{get_or-take, get_or-drop, drop-drop, take_at, drop_at, length-take-le}
 use borrow.Author.Tests.{leb-true, leb-false}
-use Rattle.sheet.specs.declared.SheetChecked.TheVariants.{Accepted}
+use Rattle.std.specs.Prelude.{Ok}
 use Rattle.sheet.specs.Layout.{leaf_count, tables_at, second_at, derived_at, second_part}
 use Rattle.sheet.specs.Refused.{sheet_refusal}
 use Rattle.marking.specs.Demand.{FilledByte, unchanged, IsVerdict, FilledSheet}
@@ -17,7 +17,8 @@ use Rattle.marking.proofs.FilledRows.{FilledRow, none, more}
 use Rattle.types.specs.Fill.{leaf_kinds, fill_verdict, fill_row, fill_rows, fill_second, fill_sheet}
 use Rattle.types.proofs.Cells.{later_size, length_rows}
 use Rattle.types.proofs.Verdicts.{fill_byte}
-use Rattle.types.proofs.Entry.{contents_ok_lem, second_within, length_second}
+use Rattle.marking.proofs.Marking.{contents_ok_lem}
+use Rattle.types.proofs.Entry.{second_within, length_second}
 
 -- Rows of bytes, before and after ----------------------------------------------------
 
@@ -53,7 +54,7 @@ rows_filled f g n l (suc k) t e =
 
 -- The sheet --------------------------------------------------------------------------
 
-module _ (parents s types : List ℕ) (a : sheet_refusal s ≡ Accepted) where
+module _ (parents s types : List ℕ) (a : sheet_refusal s ≡ Ok tt) where
   abbrev n : ℕ
   n = leaf_count s
 

@@ -2,14 +2,12 @@
 use mathlib.Core.Path.{◌≡◌, refl, ap, sym, ◌∙◌}
 use mathlib.Core.List.{List, [], ◌∷◌, ◌++◌, append-nil, append_assoc}
 use Prim.Native.Nat.{ℕ, suc, ◌+◌, ◌*◌, ◌-◌, ◌≤◌, ◌<◌}
-use native.Mathlib.Nat.{suc-mul, zero-mul, sub-zero, mul-le-mul_right, le_refl}
+use native.Mathlib.Nat.{suc-mul, mul-le-mul_right, le_refl}
 use native.Mathlib.Numerals.{add-one}
 use native.Mathlib.Omega.{arith}
 use lib.ListN.{length, get_or, take, drop, set, length-append, length-set, length-drop}
 use lib.Seq.{drop-cons, drop-length, take-suc-set, append_snoc, drop-set-lt, take_all, take_at, drop_at, length-take-le}
 use borrow.Rule.Slice.PartMut.{mid_of, put_mid}
-use mir.Syntax.{w64}
-use mir.Val.{Fits}
 use Rattle.types.specs.Fill.{fill_row, fill_rows}
 
 pub length_row : (f : (m v : ℕ) → ℕ) (m : ℕ) (row : List ℕ) → length (fill_row f m row) ≡ length row
@@ -40,12 +38,6 @@ module _ (f : (m v : ℕ) → ℕ) (before : List ℕ) where
           (rw (drop-cons row m 0 h) at r.rest);
     }
 
-    pub column_within : m < length row → {n : ℕ} → length before ≤ n → m < n
-    column_within h l = omega (arith, r.same_size)
-
-    pub column_less : m < length row → length before - (m + 1) < length before - m
-    column_less h = omega (arith, r.same_size)
-
     pub row_done : length row ≤ m → row ≡ fill_row f 0 before
     unfolding fill_row
     row_done h =
@@ -61,22 +53,13 @@ pub record TableLeft (f : (l m v : ℕ) → ℕ) (n : ℕ) (before table : List 
   pub rest : take (l * n) table ++ fill_rows f n l (n - l) (drop (l * n) table) ≡ fill_rows f n 0 n before
 
 -- where n rows of n verdicts lie in a table, so does the row l
-pub row_ends : (l n : ℕ) → l < n → l * n + n ≤ n * n
+row_ends : (l n : ℕ) → l < n → l * n + n ≤ n * n
 row_ends l n h = omega (arith, mul-le-mul_right n h, suc-mul l n)
 
 module _ (f : (l m v : ℕ) → ℕ) (n : ℕ) (before : List ℕ) where
-  pub table_start : length before ≡ n * n → TableLeft f n before before 0
-  table_start e = record { same_size = refl; size = e; rest = rw (zero-mul n, sub-zero n) }
-
   module _ (table : List ℕ) (l : ℕ) (t : TableLeft f n before table l) where
-    pub row_within : l < n → l * n + n ≤ length table
+    row_within : l < n → l * n + n ≤ length table
     row_within h = omega (arith, t.size, row_ends l n h)
-
-    pub row_fits : l < n → Fits w64 (length before) → Fits w64 (l * n + n)
-    row_fits h k = omega (arith, row_within h, t.same_size, k)
-
-    pub row_start_fits : l < n → Fits w64 (length before) → Fits w64 (l * n)
-    row_start_fits h k = omega (arith, row_fits h k)
 
     -- the row l was lent and is `row` now
     pub table_next : l < n → {row : List ℕ} → row ≡ fill_row (f l) 0 (mid_of (l * n) (l * n + n - l * n) table) → TableLeft f n before (put_mid (l * n) (l * n + n - l * n) table row) (l + 1)

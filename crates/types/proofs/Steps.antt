@@ -1,15 +1,15 @@
--- What the code's tests say, one by one: a parent, a table of types, a verdict for two types, the type numbers, a verdict filled in. Assumes nothing.
+-- What the code's tests say, one by one: a table of types, the type numbers, a verdict filled in. Assumes nothing.
 use mathlib.Core.Path.{◌≡◌, refl, ap, sym, ◌∙◌}
-use mathlib.Core.Bool.{Bool, true, false, not, ◌&&◌, ◌||◌, or-true, and-false}
+use mathlib.Core.Bool.{Bool, false, not, ◌&&◌, ◌||◌, and-false}
 use mathlib.Core.List.{List, [], ◌∷◌}
-use Prim.Native.Nat.{ℕ, suc, ◌≤◌, ◌<◌}
+use Prim.Native.Nat.{ℕ, suc, ◌≤◌}
 use native.Mathlib.Numerals.{add-one}
 use native.Mathlib.Omega.{arith}
-use lib.Dec.{eqb, leb}
+use lib.Dec.{eqb}
 use Rattle.std.specs.List.{list_all, enumerate_from, zip}
 use lib.ListN.{length, get_or, get_or-eq_default}
-use borrow.Author.Tests.{le-leb, lt-leb, eq-eqb, ne_eqb}
-use Rattle.types.specs.Derives.{parent_of, has_type, derives, not_derived, type_verdict}
+use borrow.Author.Tests.{eq-eqb, ne_eqb}
+use Rattle.types.specs.Derives.{parent_of, has_type, type_verdict}
 use Rattle.types.specs.Table.{row_ok, rows_ok}
 use Rattle.types.specs.Fill.{is_element, types_ok, fill_verdict}
 
@@ -24,27 +24,7 @@ unfolding rows_ok
 each_row row [] = refl
 each_row row (p ∷ ps) = rw (add-one row) (ap (λ (x : Bool). row_ok row p && x) (each_row (suc row) ps))
 
--- The verdict for two types ----------------------------------------------------
-
-module _ (parents : List ℕ) (d b : ℕ) where
-  pub low_base : b ≤ 1 → 0 ≡ type_verdict parents d b
-  low_base h = rw (le-leb b 1 h)
-
-  module _ {r : Bool} (e : r ≡ derives parents d b) where
-    pub derived_base : r ≡ true → 0 ≡ type_verdict parents d b
-    derived_base t = rw (sym e ∙ t, or-true (leb b 1))
-
-    pub other_base : 1 < b → r ≡ false → not_derived ≡ type_verdict parents d b
-    other_base h f = rw (lt-leb b 1 h, sym e ∙ f)
-
 -- The type numbers -------------------------------------------------------------
-
-module _ (parents : List ℕ) (kind t : ℕ) where
-  pub element_type : kind ≡ 0 → {u : ℕ} → u ≡ t → {r : Bool} → r ≡ has_type parents u → r ≡ (not (is_element kind) || has_type parents t)
-  element_type k q e = rw (eq-eqb kind 0 k, e, q)
-
-  pub wildcard_type : (kind ≡ 0 → ⊥) → true ≡ (not (is_element kind) || has_type parents t)
-  wildcard_type k = rw (ne_eqb kind 0 k)
 
 pub not_so_many : (parents kinds types : List ℕ) → (length types ≡ length kinds → ⊥) → false ≡ types_ok parents kinds types
 unfolding types_ok

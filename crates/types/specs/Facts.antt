@@ -2,12 +2,11 @@
 -- `fill_types_by` is that its answer r to the sheet s, the type numbers and the table has fill_meaning r ≡ fill_answer parents s types, and that the lent sheet then is
 -- filled_sheet parents s types; that of `fill_types` is the same at the table `builtin_parents`. So they hold of what the entries answer and write. Assumes nothing:
 -- these are definitions.
-use Rattle.std.specs.Prelude.{true, false, ◌&&◌, List, ◌⊎◌, ◌↔◌, ◌≡◌, ℕ, ◌+◌, ◌*◌, ◌≤◌, ◌<◌, length, get_or}
+use Rattle.std.specs.Prelude.{true, false, ◌&&◌, List, ◌⊎◌, ◌↔◌, ◌≡◌, ℕ, ◌+◌, ◌*◌, ◌≤◌, ◌<◌, length, get_or, Ok}
 use Rattle.rules.specs.Verdicts.{Mark, undecided}
 use Rattle.intake.specs.declared.Refusal.TheVariants.{TypeTable}
 use Rattle.intake.specs.Number.{refusal_number}
 use Rattle.entries.specs.Answer.{gives, refused}
-use Rattle.sheet.specs.declared.SheetChecked.TheVariants.{Accepted}
 use Rattle.sheet.specs.Layout.{leaf_count, second_at, derived_at, second_part}
 use Rattle.sheet.specs.Refused.{sheet_refusal}
 use Rattle.marking.specs.Answer.{sheet_leaves, sheet_tables, mark_sheet}
@@ -83,7 +82,7 @@ FilledTwice = (parents s types : List ℕ)
 
 -- The filled sheet is accepted.
 abbrev pub FilledAccepted : Type 0
-FilledAccepted = (parents s types : List ℕ) → Fills parents s types → sheet_refusal (filled_sheet parents s types) ≡ Accepted
+FilledAccepted = (parents s types : List ℕ) → Fills parents s types → sheet_refusal (filled_sheet parents s types) ≡ Ok tt
 
 -- It is the sheet filled in, as demand 3 says it.
 abbrev pub FilledIsFilledIn : Type 0

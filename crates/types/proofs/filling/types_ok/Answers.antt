@@ -9,10 +9,10 @@ use Rattle.types.proofs.filling.types_ok.Goals as goal
 
 pub returns-then-types-kinds : goal.returns-then-types-kinds
 returns-then-types-kinds c =
-    all_from_yields_List (λ (p : ℕ × ℕ). not (is_element p.0) || has_type c.args.parents.now p.1) c.all.new.self _ _ c.all.ensures.ran
+    all_from_yields_List (λ (p : ℕ × ℕ). not (is_element p.0) || has_type c.args.table.now.parents.now p.1) c.all.new.self _ _ c.all.ensures.ran
     (YieldsList-from_zip (YieldsList-from_slice c.args.kinds.now (cc)) (YieldsList-from_slice c.args.types.now (cc)))
     (λ x b q k. search (rules, tests))
-    ∙ each_type c.args.parents.now c.args.kinds.now c.args.types.now (search rules)
+    ∙ each_type c.args.table.now.parents.now c.args.kinds.now c.args.types.now (search rules)
 
 pub returns-else-types-kinds : goal.returns-else-types-kinds
 returns-else-types-kinds c = search (rules, not_so_many)

@@ -1,6 +1,6 @@
--- `filling::fill_second` meets its contract. Assumes nothing.
+-- `Filling::fill_second` meets its contract. Assumes nothing.
 use Rattle.types.proofs.Rows.{table_next, table_done}
-use Rattle.types.proofs.filling.fill_second.Goals as goal
+use Rattle.types.proofs.filling.Filling.fill_second.Goals as goal
 
 pub loop-l-preserved : goal.loop-l-preserved
 loop-l-preserved c = search table_next

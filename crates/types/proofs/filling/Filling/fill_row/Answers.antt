@@ -1,7 +1,7 @@
--- `filling::fill_row` meets its contract. Assumes nothing.
+-- `Filling::fill_row` meets its contract. Assumes nothing.
 use Rattle.std.proofs.Common.{rules}
 use Rattle.types.proofs.Rows.{row_next, row_done}
-use Rattle.types.proofs.filling.fill_row.Goals as goal
+use Rattle.types.proofs.filling.Filling.fill_row.Goals as goal
 
 pub loop-m-preserved : goal.loop-m-preserved
 loop-m-preserved c = search (rules, row_next)
