@@ -3,3 +3,4 @@ pub mod Faults
 pub mod Scan
 pub mod Number
 pub mod Accepted
+pub mod Text

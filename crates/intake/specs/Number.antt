@@ -1,5 +1,5 @@
 -- The number of each refusal: document 01's 1 to 14, and those of document 02. Assumes nothing: these are definitions.
-use Rattle.std.specs.Prelude.{List, ℕ, ◌+◌, ◌++◌, codes, decimal}
+use Rattle.std.specs.Prelude.{ℕ, ◌+◌}
 use Rattle.intake.specs.declared.Fault.{Fault}
 use Rattle.intake.specs.declared.Fault.TheVariants.{Fields, Pair, AllGroup, Depth, Counts}
 use Rattle.intake.specs.declared.Refusal.{Refusal}
@@ -25,7 +25,3 @@ refusal_number Chain = 15
 refusal_number Limit = 16
 refusal_number TypeNumber = 17
 refusal_number TypeTable = 18
-
--- what a program prints of a refusal
-abbrev pub refused_text : Refusal → List ℕ
-refused_text r = codes "refused " ++ decimal (refusal_number r)

@@ -1,14 +1,15 @@
 // The check of a tree: its first refusal, record by record.
 #![tactic(auto)]
 
-ghost use Rattle.std.specs.Prelude.{◌≡◌, false, [], ◌∷◌, ◌<◌, Some};
+mod display;
+
+ghost use Rattle.std.specs.Prelude.{◌≡◌, false, [], ◌∷◌, ◌<◌};
 ghost use Rattle.particle.specs.Tree.{records};
 ghost use Rattle.intake.specs.Faults.{leaf_ok, bound_ok, zeros_ok, fields_ok, pair_ok, all_ok, fault_of};
 ghost use Rattle.intake.specs.Scan.{level, scan, listed, alone, refusal_in};
-ghost use Rattle.intake.specs.Number.{fault_place, refusal_number, refused_text};
+ghost use Rattle.intake.specs.Number.{fault_place, refusal_number};
 
 use particle::Record;
-use std::fmt;
 
 // What is wrong with a tree, in the order in which a record is checked.
 #[derive(Clone, Copy, Debug, PartialEq, Eq)]
@@ -195,15 +196,6 @@ impl From<Refusal> for u32 {
             Refusal::TypeNumber => 17,
             Refusal::TypeTable => 18,
         }
-    }
-}
-
-// As a program prints it.
-impl fmt::Display for Refusal {
-    ghost output = { λ r. Some (refused_text r) };
-
-    fn fmt<W: fmt::Write>(&self, f: &mut fmt::Formatter<W>) -> fmt::Result {
-        write!(f, "refused {}", u32::from(*self))
     }
 }
 
