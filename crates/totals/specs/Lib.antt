@@ -1,3 +1,4 @@
 pub mod Exact
 pub mod Total
 pub mod Cut
+pub mod Text

@@ -1,6 +1,7 @@
 // The total range of the first tree of a part of a tree's bytes.
 #![tactic(auto)]
 
+mod display;
 mod ranges;
 
 ghost use Rattle.std.specs.Prelude.{◌≡◌};
