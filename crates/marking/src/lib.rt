@@ -1,6 +1,8 @@
 // Mark a sheet: the check, both trees tidied, the mark. Every byte string is an input.
 #![tactic(auto)]
 
+mod display;
+
 ghost use Rattle.std.specs.Prelude.{◌≡◌, ◌*◌, ◌≤◌};
 ghost use Rattle.particle.specs.Occurs.{is_zero};
 ghost use Rattle.particle.specs.Tree.{pair_of, tree};
