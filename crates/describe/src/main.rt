@@ -4,54 +4,20 @@
 
 use std::io;
 use streams::ROOM;
-use totals::{TotalMax, TotalMin, TotalRange};
-
-fn print_min(out: &impl Print, m: TotalMin) -> io::Result<()> {
-    match m {
-        TotalMin::Exact(n) => print!(out; "{n}"),
-        TotalMin::TooLarge => print!(out; "too large"),
-    }
-}
-
-fn print_max(out: &impl Print, m: TotalMax) -> io::Result<()> {
-    match m {
-        TotalMax::Bounded(n) => print!(out; "{n}"),
-        TotalMax::TooLarge => print!(out; "too large"),
-        TotalMax::Unbounded => print!(out; "unbounded"),
-    }
-}
-
-fn print_total(out: &impl Print, t: TotalRange) -> io::Result<()> {
-    let min = t.min;
-    let max = t.max;
-    print!(out; "total ")?;
-    print_min(out, min)?;
-    print!(out; ", ")?;
-    print_max(out, max)?;
-    println!(out)
-}
-
-fn print_emptiable(out: &impl Print, t: &[u8]) -> io::Result<()> {
-    match entries::emptiable(t) {
-        Ok(true) => println!(out; "emptiable yes"),
-        Ok(false) => println!(out; "emptiable no"),
-        Err(_) => Ok(()),
-    }
-}
 
 fn describe(out: &impl Print, t: &[u8]) -> io::Result<()> {
-    match entries::total_range(t) {
-        Err(r) => streams::print_refused(out, r),
-        Ok(o) => {
-            print_total(out, o)?;
-            print_emptiable(out, t)
+    match (entries::total_range(t), entries::emptiable(t)) {
+        (Ok(total), Ok(emptiable)) => {
+            println!(out; "total {total}")?;
+            println!(out; "emptiable {}", if emptiable { "yes" } else { "no" })
         }
+        (Err(r), _) | (_, Err(r)) => println!(out; "{r}"),
     }
 }
 
 // Input past the longest tree fills the buffer beyond that limit, and is refused.
 fn main(rt: HostRuntime) -> io::Result<()> {
     let mut buf = [0u8; ROOM];
-    let n = streams::read_full(&mut rt.stdin(), &mut buf)?;
-    describe(&rt, &buf[..n])
+    let tree = streams::read_rest(&mut rt.stdin(), &mut buf)?;
+    describe(&rt, tree)
 }

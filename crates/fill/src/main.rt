@@ -6,25 +6,16 @@
 use std::io;
 use streams::ROOM;
 
-fn print_filled(
-    out: &impl Print,
-    err: &impl Print,
-    sheet: &mut [u8],
-    numbers: &[u8],
-) -> io::Result<()> {
-    match types::fill_types(sheet, numbers) {
-        Ok(()) => out.write_all(sheet),
-        Err(r) => streams::print_refused(err, r),
-    }
-}
-
 // Input that ends within the type numbers leaves nothing for the sheet, which is refused as an empty one. Input past the longest sheet
 // fills the buffer beyond that limit, and is refused.
 fn main(rt: HostRuntime) -> io::Result<()> {
     let mut input = rt.stdin();
     let mut numbers = [0u8; ROOM];
-    let k = streams::counted(&mut input, &mut numbers)?;
+    let numbers = streams::counted(&mut input, &mut numbers)?;
     let mut sheet = [0u8; ROOM];
-    let n = streams::read_full(&mut input, &mut sheet)?;
-    print_filled(&rt, &rt.stderr(), &mut sheet[..n], &numbers[..k])
+    let sheet = streams::read_rest(&mut input, &mut sheet)?;
+    match types::fill_types(sheet, numbers) {
+        Ok(()) => rt.write_all(sheet),
+        Err(r) => eprintln!(rt; "{r}"),
+    }
 }

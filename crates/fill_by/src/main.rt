@@ -6,34 +6,18 @@
 use std::io;
 use streams::ROOM;
 
-fn print_filled(
-    out: &impl Print,
-    err: &impl Print,
-    sheet: &mut [u8],
-    numbers: &[u8],
-    parents: &[u8],
-) -> io::Result<()> {
-    match types::fill_types_by(sheet, numbers, parents) {
-        Ok(()) => out.write_all(sheet),
-        Err(r) => streams::print_refused(err, r),
-    }
-}
-
 // Input that ends within the table has zeros in place of the rest, and no sheet: where the table is accepted so, the sheet is refused as
 // an empty one. Input past the longest sheet fills the buffer beyond that limit, and is refused.
 fn main(rt: HostRuntime) -> io::Result<()> {
     let mut input = rt.stdin();
     let mut parents = [0u8; ROOM];
-    let rows = streams::counted(&mut input, &mut parents)?;
+    let parents = streams::counted(&mut input, &mut parents)?;
     let mut numbers = [0u8; ROOM];
-    let k = streams::counted(&mut input, &mut numbers)?;
+    let numbers = streams::counted(&mut input, &mut numbers)?;
     let mut sheet = [0u8; ROOM];
-    let n = streams::read_full(&mut input, &mut sheet)?;
-    print_filled(
-        &rt,
-        &rt.stderr(),
-        &mut sheet[..n],
-        &numbers[..k],
-        &parents[..rows],
-    )
+    let sheet = streams::read_rest(&mut input, &mut sheet)?;
+    match types::fill_types_by(sheet, numbers, parents) {
+        Ok(()) => rt.write_all(sheet),
+        Err(r) => eprintln!(rt; "{r}"),
+    }
 }

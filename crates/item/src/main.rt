@@ -11,7 +11,7 @@ const NUMBER: usize = 2;
 // Why t has no such item. The entries for one tree refuse alike, so another one tells the refusal.
 fn print_why(to: &impl Print, t: &[u8]) -> io::Result<()> {
     match entries::emptiable(t) {
-        Err(r) => streams::print_refused(to, r),
+        Err(r) => println!(to; "{r}"),
         Ok(_) => println!(to; "no item"),
     }
 }
@@ -32,6 +32,6 @@ fn main(rt: HostRuntime) -> io::Result<()> {
     let mut head = [0u8; NUMBER];
     streams::read_full(&mut input, &mut head)?;
     let mut buf = [0u8; ROOM];
-    let n = streams::read_full(&mut input, &mut buf)?;
-    print_item(&rt, &rt.stderr(), &buf[..n], streams::number_at(&head, 0))
+    let tree = streams::read_rest(&mut input, &mut buf)?;
+    print_item(&rt, &rt.stderr(), tree, streams::number_at(&head, 0))
 }

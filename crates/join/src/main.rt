@@ -9,11 +9,11 @@ use streams::ROOM;
 // Both buffers are longer than any chain that is joined, and than any tree; longer input is cut off there, and refused.
 fn main(rt: HostRuntime) -> io::Result<()> {
     let mut buf = [0u8; ROOM];
-    let n = streams::read_full(&mut rt.stdin(), &mut buf)?;
+    let chain = streams::read_rest(&mut rt.stdin(), &mut buf)?;
     let mut out = [0u8; ROOM];
-    match chain::effective_particle(&buf[..n], &mut out) {
+    match chain::effective_particle(chain, &mut out) {
         JoinedAnswer::Records(k) => streams::print_tree(&rt, &out, k),
         JoinedAnswer::NoContent => eprintln!(rt; "no content"),
-        JoinedAnswer::Refused(r) => streams::print_refused(&rt.stderr(), r),
+        JoinedAnswer::Refused(r) => eprintln!(rt; "{r}"),
     }
 }

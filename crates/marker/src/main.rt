@@ -3,10 +3,9 @@
 // line for each, in order. With any other arguments it marks nothing, and says on standard error how it is used.
 #![tactic(auto)]
 
-ghost use Rattle.std.specs.Prelude.{◌≡◌, true, take};
-ghost use Rattle.marking.specs.Answer.{mark_meaning, mark_sheet};
+ghost use Rattle.std.specs.Prelude.{◌≡◌, true, IfOk};
 ghost use Rattle.marker.specs.Many.{many};
-ghost use Rattle.streams.specs.Counts.{IsPrefixLen};
+ghost use Rattle.marker.specs.Next.{MarksRest, MarksNext};
 
 use marking::MarkAnswer;
 use std::env::{Env, FillError};
@@ -31,41 +30,23 @@ enum Task {
 // What came of reading the next of many sheets.
 #[derive(Clone, Copy)]
 enum Outcome {
-    Marked,
+    Marked(MarkAnswer),
     CutOff,
     Ended,
 }
 
-fn print_fails(out: &impl Print, n: u32) -> io::Result<()> {
-    println!(out; "fails {n}")
-}
-
-fn print_mark(out: &impl Print, m: MarkAnswer) -> io::Result<()> {
-    match m {
-        MarkAnswer::Passes => println!(out; "passes"),
-        MarkAnswer::Undecided => println!(out; "undecided"),
-        MarkAnswer::Fails(r) => print_fails(out, verdicts::reason_number(r)),
-        MarkAnswer::Refused(r) => streams::print_refused(out, r),
-    }
-}
-
-// Input past the longest sheet fills the buffer beyond that length, and is refused.
-fn mark_one(input: &mut impl Read, out: &impl Print) -> io::Result<()> {
-    let mut buf = [0u8; ROOM];
-    let n = streams::read_full(input, &mut buf)?;
-    print_mark(out, marking::mark(&buf[..n]))
-}
-
-// The mark of the first n bytes of buf, whatever an earlier sheet left after them.
-fn mark_first(buf: &[u8], n: usize) -> MarkAnswer
-    requires { IsPrefixLen n buf.now }
-    ensures { mark_meaning result ≡ mark_sheet (take n buf.now) }
+// Reads and marks one sheet. Input past the longest sheet fills the buffer beyond that length, and is refused.
+fn mark_one<R: Read>(input: &mut R) -> io::Result<MarkAnswer>
+    ensures { IfOk result (MarksRest (R.remaining input.old) (R.remaining input.new)) }
 {
-    marking::mark(&buf[..n])
+    let mut buf = [0u8; ROOM];
+    Ok(marking::mark(streams::read_rest(input, &mut buf)?))
 }
 
-// Reads the next sheet and prints its line.
-fn mark_next(input: &mut impl Read, out: &impl Print, buf: &mut [u8; ROOM]) -> io::Result<Outcome> {
+// Reads and marks the next of many sheets, whatever an earlier one left in buf.
+fn mark_next<R: Read>(input: &mut R, buf: &mut [u8; ROOM]) -> io::Result<Outcome>
+    ensures { IfOk result (MarksNext (R.remaining input.old) (R.remaining input.new)) }
+{
     let mut head = [0u8; LENGTH];
     let got = streams::read_full(input, &mut head)?;
     if got == 0 {
@@ -74,20 +55,21 @@ fn mark_next(input: &mut impl Read, out: &impl Print, buf: &mut [u8; ROOM]) -> i
     if got < LENGTH {
         return Ok(Outcome::CutOff);
     }
-    let n = streams::number_at(&head, 0);
-    if !streams::filled(input, buf, n)? {
+    let sheet = &mut buf[..streams::number_at(&head, 0)];
+    if !streams::filled(input, sheet)? {
         return Ok(Outcome::CutOff);
     }
-    print_mark(out, mark_first(buf, n))?;
-    Ok(Outcome::Marked)
+    Ok(Outcome::Marked(marking::mark(sheet)))
 }
 
 // A proved loop has to end, and nothing says that the input does: so the sheets are numbered up to a number that no input reaches.
 fn mark_many(input: &mut impl Read, out: &impl Print, err: &impl Print) -> io::Result<()> {
     let mut buf = [0u8; ROOM];
     for _ in 1..u64::MAX {
-        match mark_next(input, out, &mut buf)? {
-            Outcome::Marked => {}
+        match mark_next(input, &mut buf)? {
+            Outcome::Marked(mark) => {
+                println!(out; "{mark}")?;
+            }
             Outcome::CutOff => {
                 return println!(err; "marker: the input is cut off");
             }
@@ -133,7 +115,10 @@ fn print_usage(err: &impl Print) -> io::Result<()> {
 
 fn main(rt: HostRuntime) -> io::Result<()> {
     match asked(&rt) {
-        Task::One => mark_one(&mut rt.stdin(), &rt),
+        Task::One => {
+            let mark = mark_one(&mut rt.stdin())?;
+            println!(rt; "{mark}")
+        }
         Task::Many => mark_many(&mut rt.stdin(), &rt, &rt.stderr()),
         Task::Usage => print_usage(&rt.stderr()),
     }

@@ -20,13 +20,13 @@
 //   11 marker_fill_types_by, over types::fill_types_by: the input is k type numbers and then the table of types, the lent buffer the sheet
 #![tactic(auto)]
 
-ghost use Rattle.std.specs.Prelude.{◌≡◌, length, take, drop};
+ghost use Rattle.std.specs.Prelude.{◌≡◌, take, drop};
 ghost use Rattle.types.specs.Answer.{fill_answer, filled_sheet};
 ghost use Rattle.exports.specs.Numbers.{filled_number};
 ghost use Rattle.replay.specs.Expected.{number_of, buffer_of, Agrees};
 
-use std::io;
 use std::io::Read;
+use std::{fmt, io};
 use streams::ROOM;
 
 // The length of a case's head in bytes.
@@ -51,43 +51,99 @@ enum Operation {
     FillTypesBy(usize),
 }
 
-// What an operation's number stands for.
+// A case's head. The lengths are those of the input and of the lent buffer.
 #[derive(Clone, Copy)]
-enum Asked {
-    For(Operation),
-    Nothing,
+struct Head {
+    operation: Operation,
+    input_len: u16,
+    lent_len: u16,
+    answer: u64,
 }
 
-// What came of a case. Where the two numbers are the same, the buffers differ.
+// The stored number and the entry's. Where they are the same, the buffers differ.
+#[derive(Clone, Copy)]
+struct Difference {
+    expected: u64,
+    got: u64,
+}
+
+// What came of a case.
 #[derive(Clone, Copy)]
 enum Outcome {
     Agreed,
-    Differs { expected: u64, got: u64 },
-    Unknown,
-    CutOff,
+    Differs(Difference),
+}
+
+// Why there is no next case.
+#[derive(Drop)]
+enum Stop {
     Ended,
+    CutOff,
+    Unknown,
+    Failed(io::Error),
 }
 
-// The answer that a head has.
-fn stored_answer(s: &[u8; HEAD]) -> u64 {
-    (particle::read_u32(s, 7) as u64) + (particle::read_u32(s, 11) as u64) * 4294967296
+// How many answers agreed, and how many did not.
+#[derive(Clone, Copy)]
+struct Counts {
+    agreed: u64,
+    differ: u64,
 }
 
-fn asked_for(number: u8, k: usize, low: u8, high: u8) -> Asked {
-    match number {
-        1 => Asked::For(Operation::Mark),
-        2 => Asked::For(Operation::TotalMin),
-        3 => Asked::For(Operation::TotalMax),
-        4 => Asked::For(Operation::Emptiable),
-        5 => Asked::For(Operation::Tidy),
-        6 => Asked::For(Operation::Item(k)),
-        7 => Asked::For(Operation::Join),
-        8 => Asked::For(Operation::TypeDerivation(low as u32, high as u32)),
-        9 => Asked::For(Operation::FillTypes),
-        10 => Asked::For(Operation::TypeDerivationBy(low as u32, high as u32)),
-        11 => Asked::For(Operation::FillTypesBy(k)),
-        _ => Asked::Nothing,
+impl fmt::Display for Difference {
+    fn fmt<W: fmt::Write>(&self, f: &mut fmt::Formatter<W>) -> fmt::Result {
+        let Difference { expected, got } = *self;
+        if expected == got {
+            return f.write_str("another buffer after the call");
+        }
+        write!(f, "expected {expected}, got {got}")
     }
+}
+
+impl fmt::Display for Counts {
+    fn fmt<W: fmt::Write>(&self, f: &mut fmt::Formatter<W>) -> fmt::Result {
+        let Counts { agreed, differ } = *self;
+        write!(f, "{agreed} agreed, {differ} differ")
+    }
+}
+
+impl From<io::Error> for Stop {
+    fn from(e: io::Error) -> Stop {
+        Stop::Failed(e)
+    }
+}
+
+// What an operation's number stands for, if anything.
+fn asked_for(number: u8, k: [u8; 2]) -> Option<Operation> {
+    let [low, high] = k;
+    let count = usize::from(u16::from_le_bytes(k));
+    let (derived, base) = (u32::from(low), u32::from(high));
+    Some(match number {
+        1 => Operation::Mark,
+        2 => Operation::TotalMin,
+        3 => Operation::TotalMax,
+        4 => Operation::Emptiable,
+        5 => Operation::Tidy,
+        6 => Operation::Item(count),
+        7 => Operation::Join,
+        8 => Operation::TypeDerivation(derived, base),
+        9 => Operation::FillTypes,
+        10 => Operation::TypeDerivationBy(derived, base),
+        11 => Operation::FillTypesBy(count),
+        _ => return None,
+    })
+}
+
+// The head, unless its operation is unknown.
+fn head_of(bytes: &[u8; HEAD]) -> Option<Head> {
+    Some(Head {
+        operation: asked_for(bytes[0], [bytes[1], bytes[2]])?,
+        input_len: u16::from_le_bytes([bytes[3], bytes[4]]),
+        lent_len: u16::from_le_bytes([bytes[5], bytes[6]]),
+        answer: u64::from_le_bytes([
+            bytes[7], bytes[8], bytes[9], bytes[10], bytes[11], bytes[12], bytes[13], bytes[14],
+        ]),
+    })
 }
 
 // Fills the sheet from the first k bytes of the input, by the table of types that the rest of it is.
@@ -95,11 +151,8 @@ fn fill_by(sheet: &mut [u8], input: &[u8], k: usize) -> u32
     ensures value { result ≡ filled_number (fill_answer (drop k input.now) sheet.old (take k input.now)) }
     ensures sheet_after { sheet.new ≡ filled_sheet (drop k input.now) sheet.old (take k input.now) }
 {
-    let n = input.len();
-    if k < n {
-        return exports::marker_fill_types_by(sheet, &input[..k], &input[k..]);
-    }
-    exports::marker_fill_types_by(sheet, &input[..n], &input[n..])
+    let (types, parents) = input.split_at(k.min(input.len()));
+    exports::marker_fill_types_by(sheet, types, parents)
 }
 
 // Asks the exported entry.
@@ -135,75 +188,44 @@ fn judge(op: Operation, input: &[u8], lent: &mut [u8], stored: u64, after: &[u8]
             return Outcome::Agreed;
         }
     }
-    Outcome::Differs {
+    Outcome::Differs(Difference {
         expected: stored,
-        got: got,
-    }
+        got,
+    })
 }
 
-// Reads what comes after the head, and replays the case.
-fn replay_body(
-    cases: &mut impl Read,
-    op: Operation,
-    head: &[u8; HEAD],
-    input: &mut [u8],
-    lent: &mut [u8],
-    after: &mut [u8],
-) -> io::Result<Outcome>
-    requires input_len { 65536 ≡ length input.old }
-    requires lent_len { 65536 ≡ length lent.old }
-    requires after_len { 65536 ≡ length after.old }
-{
-    let n = streams::number_at(head, 3);
-    let room = streams::number_at(head, 5);
-    if !streams::filled(cases, input, n)? {
-        return Ok(Outcome::CutOff);
+// Fills buf from the cases.
+fn fill(cases: &mut impl Read, buf: &mut [u8]) -> Result<(), Stop> {
+    if streams::filled(cases, buf)? {
+        return Ok(());
     }
-    if !streams::filled(cases, lent, room)? {
-        return Ok(Outcome::CutOff);
-    }
-    if !streams::filled(cases, after, room)? {
-        return Ok(Outcome::CutOff);
-    }
-    Ok(judge(
-        op,
-        &input[..n],
-        &mut lent[..room],
-        stored_answer(head),
-        &after[..room],
-    ))
+    Err(Stop::CutOff)
 }
 
-// Replays the next case.
+// Reads and replays the next case. The buffers are for what comes after the head: the input, and the lent buffer before the call and after
+// it. No struct has them: fields that are lent side by side behind a `&mut` get no proof.
 fn replay_next(
     cases: &mut impl Read,
     input: &mut [u8; ROOM],
     lent: &mut [u8; ROOM],
     after: &mut [u8; ROOM],
-) -> io::Result<Outcome> {
+) -> Result<Outcome, Stop> {
     let mut head = [0u8; HEAD];
     let got = streams::read_full(cases, &mut head)?;
     if got == 0 {
-        return Ok(Outcome::Ended);
+        return Err(Stop::Ended);
     }
     if got < HEAD {
-        return Ok(Outcome::CutOff);
+        return Err(Stop::CutOff);
     }
-    match asked_for(head[0], streams::number_at(&head, 1), head[1], head[2]) {
-        Asked::Nothing => Ok(Outcome::Unknown),
-        Asked::For(op) => replay_body(cases, op, &head, input, lent, after),
-    }
-}
-
-fn print_difference(out: &impl Print, case: u64, expected: u64, got: u64) -> io::Result<()> {
-    if expected == got {
-        return println!(out; "case {case}: another buffer after the call");
-    }
-    println!(out; "case {case}: expected {expected}, got {got}")
-}
-
-fn print_counts(out: &impl Print, agreed: u64, differ: u64, end: &str) -> io::Result<()> {
-    println!(out; "{agreed} agreed, {differ} differ{end}")
+    let head = head_of(&head).ok_or(Stop::Unknown)?;
+    let input = &mut input[..usize::from(head.input_len)];
+    let lent = &mut lent[..usize::from(head.lent_len)];
+    let after = &mut after[..usize::from(head.lent_len)];
+    fill(cases, input)?;
+    fill(cases, lent)?;
+    fill(cases, after)?;
+    Ok(judge(head.operation, input, lent, head.answer, after))
 }
 
 // A proved loop has to end, and nothing says that the input does: so the cases are numbered up to a number that no input reaches.
@@ -212,29 +234,26 @@ fn main(rt: HostRuntime) -> io::Result<()> {
     let mut input = [0u8; ROOM];
     let mut lent = [0u8; ROOM];
     let mut after = [0u8; ROOM];
-    let mut agreed: u64 = 0;
-    let mut differ: u64 = 0;
+    let mut counts = Counts {
+        agreed: 0,
+        differ: 0,
+    };
     for case in 1..u64::MAX {
-        match replay_next(&mut cases, &mut input, &mut lent, &mut after)? {
-            Outcome::Agreed => {
-                agreed += 1;
+        match replay_next(&mut cases, &mut input, &mut lent, &mut after) {
+            Ok(Outcome::Agreed) => {
+                counts.agreed += 1;
             }
-            Outcome::Differs { expected, got } => {
-                differ += 1;
-                if differ <= SHOWN {
-                    print_difference(&rt, case, expected, got)?;
+            Ok(Outcome::Differs(difference)) => {
+                counts.differ += 1;
+                if counts.differ <= SHOWN {
+                    println!(rt; "case {case}: {difference}")?;
                 }
             }
-            Outcome::Unknown => {
-                return print_counts(&rt, agreed, differ, ", then an unknown operation");
-            }
-            Outcome::CutOff => {
-                return print_counts(&rt, agreed, differ, ", then the input is cut off");
-            }
-            Outcome::Ended => {
-                break;
-            }
+            Err(Stop::Unknown) => return println!(rt; "{counts}, then an unknown operation"),
+            Err(Stop::CutOff) => return println!(rt; "{counts}, then the input is cut off"),
+            Err(Stop::Failed(e)) => return Err(e),
+            Err(Stop::Ended) => break,
         }
     }
-    print_counts(&rt, agreed, differ, "")
+    println!(rt; "{counts}")
 }

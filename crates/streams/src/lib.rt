@@ -1,12 +1,12 @@
-// What the programs do alike with what they read and print: a number of two bytes, so many bytes, both one after the other, a refusal's
-// line, a tree.
+// What the programs do alike with what they read and print: a number of two bytes, a buffer that is filled, all that comes, so many bytes
+// as a number before them says, a tree.
 #![tactic(auto)]
 
-ghost use Rattle.std.specs.Prelude.{◌≡◌, ◌+◌, ◌≤◌, ◌<◌, length, IfOk, OnErr};
+ghost use Rattle.std.specs.Prelude.{◌≡◌, ℕ, true, false, ◌+◌, ◌≤◌, ◌<◌, length, take, IfOk, OnErr};
+ghost use Rattle.std.specs.Io.KnownBytes.{Consumes, IsAtEnd};
 ghost use Rattle.particle.specs.Record.{half};
-ghost use Rattle.streams.specs.Counts.{IsPrefixLen};
+ghost use Rattle.streams.specs.Counts.{IsPrefixLen, GivesCounted};
 
-use intake::Refusal;
 use particle::{MAX_RECORDS, RECORD_SIZE};
 use std::io;
 use std::io::Read;
@@ -26,10 +26,14 @@ pub fn number_at(s: &[u8], at: usize) -> usize
 
 // Reads until buf is full or the input ends, and returns how many bytes it put at the start of buf. It fails only where a read does, and
 // the bytes that came before stand at the start of buf.
-pub fn read_full(input: &mut impl Read, buf: &mut [u8]) -> io::Result<usize>
-    ensures ok { IfOk result (λ k. IsPrefixLen k buf.new) }
+pub fn read_full<R: Read>(input: &mut R, buf: &mut [u8]) -> io::Result<usize>
+    ensures ok { IfOk result (λ n. IsPrefixLen n buf.new) }
+    ensures bytes { IfOk result (λ n. Consumes (R.remaining input.old) (R.remaining input.new) (take n buf.new)) }
+    ensures end { IfOk result (λ n. n < length buf.old → IsAtEnd (R.remaining input.new)) }
     ensures err { OnErr result (length buf.new ≡ length buf.old) }
+    ensures none_lost { OnErr result ((n : ℕ) × Consumes (R.remaining input.old) (R.remaining input.new) (take n buf.new)) }
 {
+    // An index: std's `read_exact`, which counts in the same way, doesn't say how much came before the end, and `read_to_end` needs a heap.
     let mut done = 0;
     while done < buf.len() {
         let n = input.read(&mut buf[done..])?;
@@ -41,34 +45,37 @@ pub fn read_full(input: &mut impl Read, buf: &mut [u8]) -> io::Result<usize>
     Ok(done)
 }
 
-// Reads n bytes from the input to the start of buf; false where the input ends before. It fails only where a read does.
-pub fn filled(input: &mut impl Read, buf: &mut [u8], n: usize) -> io::Result<bool>
-    requires { n ≤ length buf.old }
-    ensures { IsPrefixLen n buf.new }
+// Reads as `read_full` does, and returns the bytes that came.
+pub fn read_rest<'a, R: Read>(input: &mut R, buf: &'a mut [u8]) -> io::Result<&'a mut [u8]>
+    ensures bytes { IfOk result (λ s. Consumes (R.remaining input.old) (R.remaining input.new) s.now) }
+    ensures end { IfOk result (λ s. length s.now < length buf.old → IsAtEnd (R.remaining input.new)) }
 {
-    Ok(read_full(input, &mut buf[..n])? == n)
+    let n = read_full(input, buf)?;
+    Ok(&mut buf[..n])
+}
+
+// Fills buf from the input; false where the input ends before. It fails only where a read does.
+pub fn filled<R: Read>(input: &mut R, buf: &mut [u8]) -> io::Result<bool>
+    ensures bytes { IfOk result (λ full. full ≡ true → Consumes (R.remaining input.old) (R.remaining input.new) buf.new) }
+    ensures end { IfOk result (λ full. full ≡ false → IsAtEnd (R.remaining input.new)) }
+    ensures none_lost { OnErr result ((n : ℕ) × Consumes (R.remaining input.old) (R.remaining input.new) (take n buf.new)) }
+{
+    Ok(read_full(input, buf)? == buf.len())
 }
 
 // The bytes of a number that says how many bytes come after it.
 const COUNT: usize = 2;
 
-// Reads a number of two bytes from the input, and then so many bytes to the start of buf. Input that ends before leaves the rest of them as
+// Reads a number of two bytes from the input, and then so many bytes, and returns these. Input that ends before leaves the rest of them as
 // they were. It fails only where a read does.
-pub fn counted(input: &mut impl Read, buf: &mut [u8]) -> io::Result<usize>
-    requires { 65536 ≤ length buf.old }
-    ensures ok { IfOk result (λ k. IsPrefixLen k buf.new) }
-    ensures err { OnErr result (length buf.new ≡ length buf.old) }
+pub fn counted<'a, R: Read>(input: &mut R, buf: &'a mut [u8; ROOM]) -> io::Result<&'a [u8]>
+    ensures { IfOk result (λ s. GivesCounted (R.remaining input.old) (R.remaining input.new) s.now) }
 {
     let mut head = [0u8; COUNT];
     read_full(input, &mut head)?;
-    let n = number_at(&head, 0);
-    filled(input, buf, n)?;
-    Ok(n)
-}
-
-// `refused N`.
-pub fn print_refused(to: &impl Print, r: Refusal) -> io::Result<()> {
-    println!(to; "{r}")
+    let part = &mut buf[..number_at(&head, 0)];
+    read_full(input, part)?;
+    Ok(part)
 }
 
 // The tree of k records at the start of t. No tree that an entry writes has more than MAX_RECORDS.

@@ -8,10 +8,10 @@ use streams::ROOM;
 // Both buffers are longer than any tree, and equally long; longer input is cut off there, and refused.
 fn main(rt: HostRuntime) -> io::Result<()> {
     let mut buf = [0u8; ROOM];
-    let n = streams::read_full(&mut rt.stdin(), &mut buf)?;
+    let tree = streams::read_rest(&mut rt.stdin(), &mut buf)?;
     let mut out = [0u8; ROOM];
-    match entries::tidy(&buf[..n], &mut out) {
+    match entries::tidy(tree, &mut out) {
         Ok(k) => streams::print_tree(&rt, &out, k),
-        Err(r) => streams::print_refused(&rt.stderr(), r),
+        Err(r) => eprintln!(rt; "{r}"),
     }
 }

@@ -3,4 +3,4 @@ use Rattle.std.proofs.Common.{◌<◌}
 use Rattle.replay.proofs.main.Given as goal
 
 abbrev pub invariant-loop-case : goal.invariant-loop-case
-invariant-loop-case l = (l.agreed < l.case) × (l.differ < l.case)
+invariant-loop-case l = (l.counts.agreed < l.case-counter) × (l.counts.differ < l.case-counter)
