@@ -18,6 +18,7 @@ ghost use Rattle.marking.specs.Buffers.{Buffer, BothFit};
 ghost use Rattle.marking.specs.Answer.{mark_of_sheet, mark_sheet, mark_meaning, SetInRange};
 
 use intake::Refusal;
+use particle::Subtree;
 use verdicts::{Reason, Verdict};
 
 // The length of the longest tree in bytes.
@@ -63,7 +64,7 @@ fn early_pass(d: &[u8], b: &[u8]) -> bool
     requires b_row { Row 1 b.now }
     ensures { result ≡ early_pass (tree d.now) (tree b.now) }
 {
-    never(d) && (never(b) || particle::emptiable(b))
+    never(d) && (never(b) || particle::emptiable(Subtree { bytes: b }))
 }
 
 // The mark of two tidied trees, by the leaves and the tables of a sheet with n leaves.
