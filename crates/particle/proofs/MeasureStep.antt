@@ -69,11 +69,13 @@ pub record MeasuredFrom (before t : List ℕ) (at : ℕ) : Type 0 where
   pub measured : Measured (records (drop at t))
 
 module _ {before : List ℕ} where
-  pub none_measured : Row 1 before → length before ≤ record_size * max_records → MeasuredFrom before before (length before)
+  -- from the end, n records on
+  pub none_measured : {n : ℕ} → n ≡ length (records before) → Row 1 before → length before ≤ record_size * max_records → MeasuredFrom before before (record_size * n)
   unfolding Complete Measured
-  none_measured w few =
+  none_measured {n} count w few =
+      let end : record_size * n ≡ length before = omega (arith, w.even, length_records before) in
       let e : records (drop (length before) before) ≡ [] = rw (drop-length before) (records_short [] (omega arith)) in
-      record { whole = w; few = few; same = refl; even = w.even; within = omega arith; front = refl; trees = refl; complete = rw e tt; measured = rw e tt }
+      rw end (record { whole = w; few = few; same = refl; even = w.even; within = omega arith; front = refl; trees = refl; complete = rw e tt; measured = rw e tt })
 
   pub all_measured : {t : List ℕ} {at : ℕ} → MeasuredFrom before t at → at ≤ 0 → Run 1 t × (tree t ≡ tree before)
   unfolding tree
@@ -82,106 +84,105 @@ module _ {before : List ℕ} where
       let b : MeasuredFrom before t 0 = rw z at a in
       (record { row = record { even = omega (arith, b.whole.even, b.same); complete = b.complete; enough = rw b.trees b.whole.enough }; measured = b.measured; few = omega (arith, b.few, b.same) }, ap first_of b.trees)
 
-  -- one turn: the record at p, and what stands from `at` on
-  module _ {t : List ℕ} {at : ℕ} (a : MeasuredFrom before t at) (some : 0 < at) where
-    long : record_size ≤ at
-    long = omega (arith, a.even)
+  -- the next record is the one before them
+  pub one_more : {t : List ℕ} {i : ℕ} → MeasuredFrom before t (record_size * i) → 0 < i → MeasuredFrom before t (record_size * (i - 1) + record_size)
+  one_more {t} {i} a h =
+      let e : record_size * (i - 1) + record_size ≡ record_size * i = omega arith in
+      rw e a
 
-    ends : at - record_size + record_size ≡ at
-    ends = omega (arith, long)
-
-    pub record_long : record_size ≤ length (drop (at - record_size) t)
-    record_long = omega (arith, long, a.within, a.same, length-drop (at - record_size) t)
+  -- one turn: the record at p, and what stands after it
+  module _ {t : List ℕ} (p : ℕ) (a : MeasuredFrom before t (p + record_size)) where
+    pub record_long : record_size ≤ length (drop p t)
+    record_long = omega (arith, a.within, a.same, length-drop p t)
 
     -- the record there is the one that it was
-    record_bytes_lem : (l : List ℕ) → at ≤ length l → take record_size (drop (at - record_size) l) ≡ drop (at - record_size) (take at l)
+    record_bytes_lem : (l : List ℕ) → p + record_size ≤ length l → take record_size (drop p l) ≡ drop p (take (p + record_size) l)
     record_bytes_lem l h =
-        sym (ap (λ (n : ℕ). drop (at - record_size) (take n l)) (sym ends)
-        ∙ (ap (drop (at - record_size)) (take-add (at - record_size) record_size l)
-        ∙ drop_at (take (at - record_size) l) (take record_size (drop (at - record_size) l)) (at - record_size) (length-take-le (at - record_size) l (omega arith))))
+        sym (ap (drop p) (take-add p record_size l)
+        ∙ drop_at (take p l) (take record_size (drop p l)) p (length-take-le p l (omega arith)))
 
-    record_same : record_at (drop (at - record_size) t) ≡ record_at (drop (at - record_size) before)
+    record_same : record_at (drop p t) ≡ record_at (drop p before)
     record_same =
-        sym (record_front (drop (at - record_size) t))
-        ∙ (ap record_at (record_bytes_lem t (omega (arith, a.within, a.same)) ∙ (ap (drop (at - record_size)) a.front ∙ sym (record_bytes_lem before a.within)))
-        ∙ record_front (drop (at - record_size) before))
+        sym (record_front (drop p t))
+        ∙ (ap record_at (record_bytes_lem t (omega (arith, a.within, a.same)) ∙ (ap (drop p) a.front ∙ sym (record_bytes_lem before a.within)))
+        ∙ record_front (drop p before))
 
-    count_same : (record_at (drop (at - record_size) t)).count ≡ (record_at (drop (at - record_size) before)).count
+    count_same : (record_at (drop p t)).count ≡ (record_at (drop p before)).count
     count_same = ap (λ (r : Record). r.count) record_same
 
     -- its items, and the records from there on
-    from_items : (l : List ℕ) → drop record_size (drop (at - record_size) l) ≡ drop at l
-    from_items l = drop-drop record_size (at - record_size) l ∙ ap (λ (n : ℕ). drop n l) ends
+    from_items : (l : List ℕ) → drop record_size (drop p l) ≡ drop (p + record_size) l
+    from_items l = drop-drop record_size p l
 
-    from_here : (l : List ℕ) → record_size ≤ length (drop (at - record_size) l) → records (drop (at - record_size) l) ≡ record_at (drop (at - record_size) l) ∷ records (drop at l)
-    from_here l h = records_cons (drop (at - record_size) l) h ∙ ap (λ (k : List ℕ). record_at (drop (at - record_size) l) ∷ records k) (from_items l)
+    from_here : (l : List ℕ) → record_size ≤ length (drop p l) → records (drop p l) ≡ record_at (drop p l) ∷ records (drop (p + record_size) l)
+    from_here l h = records_cons (drop p l) h ∙ ap (λ (k : List ℕ). record_at (drop p l) ∷ records k) (from_items l)
 
-    count_fits : (record_at (drop (at - record_size) before)).count ≤ count_i (decode (drop at t))
+    count_fits : (record_at (drop p before)).count ≤ count_i (decode (drop (p + record_size) t))
     unfolding Complete decode
     count_fits =
-        let h : record_size ≤ length (drop (at - record_size) before) = omega (arith, long, a.within, length-drop (at - record_size) before) in
-        let k : at - record_size ≡ record_size * ((at - record_size) / record_size) = omega (arith, a.even, long) in
-        let c : Complete (records (drop (at - record_size) before)) = rw (k, records_drop ((at - record_size) / record_size) before) (complete_drop ((at - record_size) / record_size) (records before) a.whole.complete) in
-        let d : Complete (record_at (drop (at - record_size) before) ∷ records (drop at before)) = rw (from_here before h) at c in
+        let h : record_size ≤ length (drop p before) = omega (arith, a.within, length-drop p before) in
+        let k : p ≡ record_size * (p / record_size) = omega (arith, a.even) in
+        let c : Complete (records (drop p before)) = rw (k, records_drop (p / record_size) before) (complete_drop (p / record_size) (records before) a.whole.complete) in
+        let d : Complete (record_at (drop p before) ∷ records (drop (p + record_size) before)) = rw (from_here before h) at c in
         rw a.trees d.0
 
     -- with the record there as it was, or with its notes where it has items
-    record_measured : {after : List ℕ} (r : Record) → length after ≡ length t → take (at - record_size) after ≡ take (at - record_size) t → drop at after ≡ drop at t → record_at (drop (at - record_size) after) ≡ r
-        → head_of r ≡ head_of (record_at (drop (at - record_size) before)) → r.count ≡ (record_at (drop (at - record_size) before)).count
-        → (0 < r.count → Noted r (build (r ∷ records (drop at t)))) → MeasuredFrom before after (at - record_size)
+    record_measured : {after : List ℕ} (r : Record) → length after ≡ length t → take p after ≡ take p t → drop (p + record_size) after ≡ drop (p + record_size) t → record_at (drop p after) ≡ r
+        → head_of r ≡ head_of (record_at (drop p before)) → r.count ≡ (record_at (drop p before)).count
+        → (0 < r.count → Noted r (build (r ∷ records (drop (p + record_size) t)))) → MeasuredFrom before after p
     unfolding Complete Measured decode build
-    record_measured {after} r same front back here head count notes =
-        let h : record_size ≤ length (drop (at - record_size) before) = omega (arith, long, a.within, length-drop (at - record_size) before) in
-        let h' : record_size ≤ length (drop (at - record_size) after) = omega (arith, long, a.within, a.same, same, length-drop (at - record_size) after) in
-        let rs : records (drop (at - record_size) after) ≡ r ∷ records (drop at t) = from_here after h' ∙ rw (here, back) in
+    record_measured {after} r same front back is head count notes =
+        let h : record_size ≤ length (drop p before) = omega (arith, a.within, length-drop p before) in
+        let h' : record_size ≤ length (drop p after) = omega (arith, a.within, a.same, same, length-drop p after) in
+        let rs : records (drop p after) ≡ r ∷ records (drop (p + record_size) t) = from_here after h' ∙ rw (is, back) in
         record {
           whole = a.whole;
           few = a.few;
           same = same ∙ a.same;
-          even = omega (arith, a.even, long);
+          even = omega (arith, a.even);
           within = omega (arith, a.within);
-          front = front ∙ (sym (take-take (at - record_size) at t (omega arith)) ∙ (ap (take (at - record_size)) a.front ∙ take-take (at - record_size) at before (omega arith)));
+          front = front ∙ (sym (take-take p (p + record_size) t (omega arith)) ∙ (ap (take p) a.front ∙ take-take p (p + record_size) before (omega arith)));
           trees = rw (rs, from_here before h, head, count, a.trees);
           complete = rw rs (rw count count_fits, a.complete);
           measured = rw rs (notes, a.measured);
         }
 
     -- a record without items stays as it is
-    pub bare_measured : {count : ℕ} → count ≡ (record_at (drop (at - record_size) t)).count → count ≤ 0 → MeasuredFrom before t (at - record_size)
-    bare_measured c z = record_measured (record_at (drop (at - record_size) t)) refl refl refl refl (ap head_of record_same) count_same (λ g. absurd (omega (arith, c, z, g)))
+    pub bare_measured : {count : ℕ} → count ≡ (record_at (drop p t)).count → count ≤ 0 → MeasuredFrom before t p
+    bare_measured c z = record_measured (record_at (drop p t)) refl refl refl refl (ap head_of record_same) count_same (λ g. absurd (omega (arith, c, z, g)))
 
     -- one with `count` items
-    module _ {count : ℕ} (c : count ≡ (record_at (drop (at - record_size) t)).count) (g : 0 < count) where
+    module _ {count : ℕ} (c : count ≡ (record_at (drop p t)).count) (g : 0 < count) where
       -- whose bytes are lent as `&t[at..]`
       abbrev Here : List ℕ
-      Here = take (length t - (at - record_size)) (drop (at - record_size) t)
+      Here = take (length t - p) (drop p t)
 
-      here_is : Here ≡ drop (at - record_size) t
-      here_is = part_is t (at - record_size)
+      here_is : Here ≡ drop p t
+      here_is = part_is t p
 
-      items_measured : Run (record_at (drop (at - record_size) t)).count (drop at t)
+      items_measured : Run (record_at (drop p t)).count (drop (p + record_size) t)
       items_measured = record {
-        row = record { even = omega (arith, a.whole.even, a.same, a.even, a.within, length-drop at t); complete = a.complete; enough = omega (arith, count_same, count_fits) };
+        row = record { even = omega (arith, a.whole.even, a.same, a.even, a.within, length-drop (p + record_size) t); complete = a.complete; enough = omega (arith, count_same, count_fits) };
         measured = a.measured;
-        few = omega (arith, a.few, a.same, length-drop at t);
+        few = omega (arith, a.few, a.same, length-drop (p + record_size) t);
       }
 
       pub tree_lent : Row 1 Here
       unfolding Complete decode build count_i
       tree_lent =
-          let rs : records (drop (at - record_size) t) ≡ record_at (drop (at - record_size) t) ∷ records (drop at t) = from_here t record_long in
+          let rs : records (drop p t) ≡ record_at (drop p t) ∷ records (drop (p + record_size) t) = from_here t record_long in
           rw here_is (record {
-            even = omega (arith, a.whole.even, a.same, a.even, a.within, long, length-drop (at - record_size) t);
+            even = omega (arith, a.whole.even, a.same, a.even, a.within, length-drop p t);
             complete = rw rs (omega (arith, items_measured.row.enough), a.complete);
             enough = rw rs (omega arith);
           })
 
       -- its items' bytes are lent as `&t[at + RECORD_SIZE..]`
       abbrev Rest : List ℕ
-      Rest = take (length t - (at - record_size + record_size)) (drop (at - record_size + record_size) t)
+      Rest = take (length t - (p + record_size)) (drop (p + record_size) t)
 
-      rest_is : Rest ≡ drop at t
-      rest_is = part_is t (at - record_size + record_size) ∙ ap (λ (k : ℕ). drop k t) ends
+      rest_is : Rest ≡ drop (p + record_size) t
+      rest_is = part_is t (p + record_size)
 
       pub items_lent : Run count Rest
       items_lent = rw (rest_is, c) items_measured
@@ -194,27 +195,26 @@ module _ {before : List ℕ} where
         pub found_lent : RowFound (record_at Here).count (items_part Here) x
         found_lent = rw (here_is, from_items t) (rw (rest_is, c) at f)
 
-        size_is : x.len / record_size + 1 ≡ suc (size_i (row (record_at (drop (at - record_size) t)).count (drop at t)))
+        size_is : x.len / record_size + 1 ≡ suc (size_i (row (record_at (drop p t)).count (drop (p + record_size) t)))
         size_is =
-            let q : x.len ≡ record_size * size_i (row count (drop at t)) = rw rest_is at f.len in
+            let q : x.len ≡ record_size * size_i (row count (drop (p + record_size) t)) = rw rest_is at f.len in
             rw (← c) (omega (arith, q))
 
         pub size_fits : x.len / record_size + 1 ≤ max_records
         unfolding decode
-        size_fits = omega (arith, size_is, size_i_split (record_at (drop (at - record_size) t)).count (build (records (drop at t))), size_i_build (records (drop at t)), length_records (drop at t), length-drop at t, a.same, long, a.few)
+        size_fits = omega (arith, size_is, size_i_split (record_at (drop p t)).count (build (records (drop (p + record_size) t))), size_i_build (records (drop (p + record_size) t)), length_records (drop (p + record_size) t), length-drop (p + record_size) t, a.same, a.few)
 
         -- e is what is noted
         module _ {e : ℕ} {empty : Bool} (q : e ≡ note_of empty) (is : empty ≡ emptiable (tree Here)) where
-          notes : Noted (with_notes (record_at (drop (at - record_size) t)) e (x.len / record_size + 1)) (build (with_notes (record_at (drop (at - record_size) t)) e (x.len / record_size + 1) ∷ records (drop at t)))
+          notes : Noted (with_notes (record_at (drop p t)) e (x.len / record_size + 1)) (build (with_notes (record_at (drop p t)) e (x.len / record_size + 1) ∷ records (drop (p + record_size) t)))
           unfolding tree decode build take_i size_i
           notes =
-              let r = with_notes (record_at (drop (at - record_size) t)) e (x.len / record_size + 1) in
-              let same : tree Here ≡ first_of (build (r ∷ records (drop at t))) = rw (here_is, from_here t record_long) in
+              let r = with_notes (record_at (drop p t)) e (x.len / record_size + 1) in
+              let same : tree Here ≡ first_of (build (r ∷ records (drop (p + record_size) t))) = rw (here_is, from_here t record_long) in
               record { empty = q ∙ ap note_of (is ∙ ap emptiable same); size = size_is ∙ omega arith }
 
-          pub noted_measured : {after : List ℕ} → after ≡ sets (set t (at - record_size + at_zero) e) (at - record_size + at_size) (half_bytes (x.len / record_size + 1)) → MeasuredFrom before after (at - record_size)
+          pub noted_measured : {after : List ℕ} → after ≡ sets (set t (p + at_zero) e) (p + at_size) (half_bytes (x.len / record_size + 1)) → MeasuredFrom before after p
           noted_measured s =
-              let p = at - record_size in
               let v = x.len / record_size + 1 in
               let q : suc (p + at_size) ≡ p + suc at_size = omega arith in
               let one = set t (p + at_zero) e in
@@ -222,6 +222,6 @@ module _ {before : List ℕ} where
               rw s
               (record_measured (with_notes (record_at (drop p t)) e v) (length-sets one (p + at_size) (half_bytes v) ∙ length-set t (p + at_zero) e)
               (take-set-le p two (suc (p + at_size)) (v / 256) (omega arith) ∙ (take-set-le p one (p + at_size) (v % 256) (omega arith) ∙ take-set-le p t (p + at_zero) e (omega arith)))
-              (drop-set-lt at two (suc (p + at_size)) (v / 256) (omega (arith, long)) ∙ (drop-set-lt at one (p + at_size) (v % 256) (omega (arith, long)) ∙ drop-set-lt at t (p + at_zero) e (omega (arith, long))))
+              (drop-set-lt (p + record_size) two (suc (p + at_size)) (v / 256) (omega arith) ∙ (drop-set-lt (p + record_size) one (p + at_size) (v % 256) (omega arith) ∙ drop-set-lt (p + record_size) t (p + at_zero) e (omega arith)))
               (ap record_at (ap (λ (i : ℕ). drop p (set two i (v / 256))) q ∙ (drop-set-add p two (suc at_size) (v / 256) ∙ ap (λ (l : List ℕ). set l (suc at_size) (v / 256)) (drop-set-add p one at_size (v % 256) ∙ ap (λ (l : List ℕ). set l at_size (v % 256)) (drop-set-add p t at_zero e)))) ∙ notes_stored (drop p t) e v record_long)
               (ap head_of record_same) count_same (λ _. notes))

@@ -207,8 +207,9 @@ pub fn run_len(t: &[u8]) -> usize
     requires { Row 1 t.now }
     ensures { result ≡ run_size t.now }
 {
-    let mut at: usize = 0;
-    let mut pending: usize = 1;
+    let mut at = 0;
+    let mut pending = 1;
+    // No `for`: how many records there are shows only as they are read, each of which adds its items.
     while pending > 0 {
         pending = pending - 1 + count_at(t, at);
         at += RECORD_SIZE;
@@ -239,11 +240,9 @@ fn item_start(t: &[u8], k: usize) -> usize
     requires k_bound { k < (record_at t.now).count }
     ensures { ItemAt k t.now result }
 {
-    let mut at: usize = RECORD_SIZE;
-    let mut i: usize = 0;
-    while i < k {
+    let mut at = RECORD_SIZE;
+    for _ in 0..k {
         at += run_len(&t[at..]);
-        i += 1;
     }
     at
 }

@@ -8,7 +8,8 @@ ghost use Rattle.particle.specs.Empty.{emptiable};
 ghost use Rattle.particle.specs.Runs.{Run, RunIf, RowFound};
 
 use crate::{
-    AT_SIZE, AT_ZERO, CHOICE, RECORD_SIZE, SEQUENCE, count_at, items, later, record_at, write,
+    AT_SIZE, AT_ZERO, CHOICE, RECORD_SIZE, SEQUENCE, count_at, items, later, record_at,
+    record_count, write,
 };
 
 // What is noted of a tree that is emptiable; of any other it is 0.
@@ -68,19 +69,16 @@ fn walk(t: &[u8], n: usize) -> Found
     let mut every = true;
     let mut some = false;
     let mut rest = t;
-    let mut left = n;
-    while 0 < left {
+    for _ in 0..n {
         let empty = told_emptiable(rest);
-        every = every & empty;
-        some = some | empty;
-        let following = next(rest);
-        rest = following;
-        left -= 1;
+        every &= empty;
+        some |= empty;
+        rest = next(rest);
     }
     Found {
         len: t.len() - rest.len(),
-        every: every,
-        some: some,
+        every,
+        some,
     }
 }
 
@@ -102,9 +100,8 @@ pub fn measure(t: &mut [u8])
     requires t_len_bound { length t.old ≤ record_size * max_records }
     ensures { Run 1 t.new × (tree t.new ≡ tree t.old) }
 {
-    let mut at = t.len();
-    while 0 < at {
-        at -= RECORD_SIZE;
+    for i in (0..record_count(t)).rev() {
+        let at = RECORD_SIZE * i;
         let count = count_at(t, at);
         if 0 < count {
             let x = walk(&t[at + RECORD_SIZE..], count);

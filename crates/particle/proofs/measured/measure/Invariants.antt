@@ -1,9 +1,8 @@
 -- `measured::measure` meets its contract. Assumes nothing.
+use Prim.Native.Nat.{◌*◌}
+use Rattle.particle.specs.Record.{record_size}
 use Rattle.particle.proofs.MeasureStep.{MeasuredFrom}
 use Rattle.particle.proofs.measured.measure.Given as goal
 
-abbrev pub invariant-loop-at : goal.invariant-loop-at
-invariant-loop-at l = MeasuredFrom l.initial.t l.t l.at
-
-abbrev pub decreases-loop-at : goal.decreases-loop-at
-decreases-loop-at l = l.at
+abbrev pub invariant-loop-i : goal.invariant-loop-i
+invariant-loop-i l = MeasuredFrom l.initial.t l.t (record_size * l.i)

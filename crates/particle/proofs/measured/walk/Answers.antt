@@ -1,23 +1,23 @@
 -- `measured::walk` meets its contract. Assumes nothing.
+use mathlib.Core.Path.{◌≡◌}
+use Prim.Native.Nat.{◌+◌, ◌-◌, ◌≤◌, ◌<◌}
 use native.Mathlib.Omega.{arith}
-use Rattle.particle.proofs.Runs.{run_le, row_done}
-use Rattle.particle.proofs.Found.{walk_start, walk_next, walk_done}
+use Rattle.particle.proofs.Runs.{row_done}
+use Rattle.particle.proofs.Found.{walk_next, walk_done}
 use Rattle.particle.proofs.measured.walk.Goals as goal
 
-pub loop-left-init : goal.loop-left-init
-loop-left-init c = walk_start c.requires
-
-pub told_emptiable-empty-requires : goal.told_emptiable-empty-requires
-told_emptiable-empty-requires c = run_le c.loop-left-test.true c.loop-left.invariant.ahead.trees
-
-pub next-following-requires : goal.next-following-requires
-next-following-requires c = run_le c.loop-left-test.true c.loop-left.invariant.ahead.trees
-
-pub loop-left-preserved : goal.loop-left-preserved
-loop-left-preserved c = search walk_next
+pub loop-preserved : goal.loop-preserved
+loop-preserved c =
+    let some : 0 < c.args.n - c.loop.counter = omega arith in
+    let one_less : c.args.n - (c.loop.counter + 1) ≡ c.args.n - c.loop.counter - 1 = omega arith in
+    rw one_less (search walk_next)
 
 pub overflow_sub-result : goal.overflow_sub-result
-overflow_sub-result c = omega (arith, row_done c.loop-left.invariant.ahead c.loop-left-test.false)
+overflow_sub-result c =
+    let none : c.args.n - c.loop.counter ≤ 0 = omega arith in
+    omega (arith, row_done c.loop.invariant.ahead none)
 
 pub returns : goal.returns
-returns c = search walk_done
+returns c =
+    let none : c.args.n - c.loop.counter ≤ 0 = omega arith in
+    search walk_done
