@@ -1,4 +1,5 @@
 -- How a chain is answered: what was found before each answer. Assumes nothing.
+use Rattle.std.specs.Prelude.{Result, Ok, Err}
 use mathlib.Core.Bool.{Bool, true, false, cond}
 use mathlib.Core.List.{List}
 use mathlib.Core.Option.{Option, none, some}
@@ -10,8 +11,6 @@ use borrow.Author.Tests.{ltb-false}
 use Rattle.particle.specs.Record.{record_size}
 use Rattle.particle.specs.Tree.{Particle, single, size_i}
 use Rattle.intake.specs.declared.Fault.{Fault}
-use Rattle.intake.specs.declared.Checked.{Checked}
-use Rattle.intake.specs.declared.Checked.TheVariants.{Accepted, Refused}
 use Rattle.intake.specs.declared.Refusal.TheVariants.{Buffer, Derived, Chain, Limit}
 use Rattle.intake.specs.Number.{refusal_number}
 use Rattle.entries.specs.Answer.{Answer, gives, refused}
@@ -21,12 +20,12 @@ use Rattle.chain.specs.Answer.{chain_ok, levels_refusal, joined_tree, over_limit
 -- a chain whose trees are accepted
 pub record Sound (c : List ℕ) : Type 0 where
   pub ok : chain_ok c ≡ true
-  pub accepted : levels_refusal (levels c) ≡ Accepted
+  pub accepted : levels_refusal (levels c) ≡ Ok tt
 
 -- every way to an answer, in the order of the checks
 pub data Reached (c out : List ℕ) : Answer (Option ℕ) → Type 0 where
   no_chain : chain_ok c ≡ false → Reached c out (refused (refusal_number Chain))
-  bad_tree : {f : Fault} → chain_ok c ≡ true → levels_refusal (levels c) ≡ Refused f → Reached c out (refused (refusal_number (Derived f)))
+  bad_tree : {f : Fault} → chain_ok c ≡ true → levels_refusal (levels c) ≡ Err f → Reached c out (refused (refusal_number (Derived f)))
   no_content : Sound c → joined_tree c ≡ none → Reached c out (gives none)
   too_large : {x : Particle} → Sound c → joined_tree c ≡ some x → over_limits x ≡ true → Reached c out (refused (refusal_number Limit))
   too_short : {x : Particle} → Sound c → joined_tree c ≡ some x → over_limits x ≡ false → Reached c out (refused (refusal_number Buffer))
@@ -38,7 +37,7 @@ module _ (c out : List ℕ) where
   unfolding chain_answer
   not_chain k = rw k
 
-  pub of_levels : chain_ok c ≡ true → {f : Checked} → levels_refusal (levels c) ≡ f → chain_answer c out ≡ after_levels f (content_answer (joined_tree c) (length out))
+  pub of_levels : chain_ok c ≡ true → {f : Result (Unit {0}) Fault} → levels_refusal (levels c) ≡ f → chain_answer c out ≡ after_levels f (content_answer (joined_tree c) (length out))
   unfolding chain_answer
   of_levels k a = rw (k, a)
 
@@ -54,9 +53,9 @@ module _ (c out : List ℕ) where
   joined s none i = no_content s i
   joined s (some x) i = limited x s i (over_limits x) refl
 
-  checked : chain_ok c ≡ true → (f : Checked) → levels_refusal (levels c) ≡ f → Reached c out (after_levels f (content_answer (joined_tree c) (length out)))
-  checked k Accepted a = joined (record { ok = k; accepted = a }) (joined_tree c) refl
-  checked k (Refused f) a = bad_tree k a
+  checked : chain_ok c ≡ true → (f : Result (Unit {0}) Fault) → levels_refusal (levels c) ≡ f → Reached c out (after_levels f (content_answer (joined_tree c) (length out)))
+  checked k (Ok _) a = joined (record { ok = k; accepted = a }) (joined_tree c) refl
+  checked k (Err f) a = bad_tree k a
 
   pub reached : Reached c out (chain_answer c out)
   reached = laid (chain_ok c) refl

@@ -1,4 +1,5 @@
 -- The joined tree can be the base of a sheet: it is not refused for its base, and is accepted where the rest is in order. Assumes nothing.
+use Rattle.std.specs.Prelude.{Result, Ok, Err}
 use mathlib.Core.Bool.{Bool, true, false, cond}
 use mathlib.Core.List.{List}
 use mathlib.Core.Path.{◌≡◌, ap, sym, ◌∙◌}
@@ -10,13 +11,10 @@ use Rattle.particle.proofs.Encoded.{encoded_tree}
 use Rattle.language.specs.Premises.{Every, Throughout}
 use Rattle.intake.specs.declared.Fault.{Fault}
 use Rattle.intake.specs.declared.Refusal.TheVariants.{Contents, Leaf, Verdict, Base, Derived}
-use Rattle.intake.specs.declared.Checked.{Checked}
-use Rattle.intake.specs.declared.Checked.TheVariants as checked
 use Rattle.intake.specs.Scan.{refusal_in, alone}
 use Rattle.intake.specs.Accepted.{LeafFits, is_all, TreesFit, TreeFits}
 use Rattle.intake.specs.Faults.{Known}
 use Rattle.intake.proofs.FitsAccepted.{fits_accepted}
-use Rattle.sheet.specs.declared.SheetChecked.TheVariants.{Accepted, Refused}
 use Rattle.sheet.specs.Layout.{leaf_list, tables_part, base_part, derived_part}
 use Rattle.sheet.specs.Refused.{contents_ok, leaves_ok, verdicts_ok, known_in, or_else, sheet_refusal}
 use Rattle.sheet.specs.Fits.{known_by, PaperFits}
@@ -29,14 +27,14 @@ use Rattle.chain.proofs.Joined.{tree_fits}
 use Rattle.chain.proofs.Written.{given, written_is, joined_fits_leaves, joined_accepted}
 
 -- a sheet whose base tree is accepted, by what its other checks find
-no_base : (c l v : Bool) (d : Checked) (f : Fault) → cond c (cond l (cond v (or_else Derived d Accepted) (Refused Verdict)) (Refused Leaf)) (Refused Contents) ≡ Refused (Base f) → ◌≡◌ {A = ℕ} 0 1
-no_base true true true checked.Accepted f e = cc
-no_base true true true (checked.Refused g) f e = cc
+no_base : (c l v : Bool) (d : Result (Unit {0}) Fault) (f : Fault) → cond c (cond l (cond v (or_else Derived d (Ok tt)) (Err Verdict)) (Err Leaf)) (Err Contents) ≡ Err (Base f) → ◌≡◌ {A = ℕ} 0 1
+no_base true true true (Ok tt) f e = cc
+no_base true true true (Err g) f e = cc
 no_base true true false d f e = cc
 no_base true false v d f e = cc
 no_base false l v d f e = cc
 
-base_passed : (s : List ℕ) → AcceptedIn (known_in s) (base_part s) → (f : Fault) → ¬ (sheet_refusal s ≡ Refused (Base f))
+base_passed : (s : List ℕ) → AcceptedIn (known_in s) (base_part s) → (f : Fault) → ¬ (sheet_refusal s ≡ Err (Base f))
 unfolding sheet_refusal
 base_passed s a f e =
     let z = no_base (contents_ok s) (leaves_ok (leaf_list s)) (verdicts_ok (tables_part s)) (refusal_in (known_in s) (derived_part s)) f (rw a at e) in

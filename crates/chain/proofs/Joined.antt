@@ -1,4 +1,5 @@
 -- The tree that a chain's accepted levels join to, and when the check of a tree alone accepts its bytes. Assumes nothing.
+use Rattle.std.specs.Prelude.{Ok}
 use mathlib.Core.Bool.{Bool, true, false, ◌||◌, true≢false}
 use mathlib.Core.List.{List, [], ◌∷◌, map, flat_map, flatten}
 use mathlib.Core.Option.{none, some}
@@ -13,7 +14,6 @@ use Rattle.particle.specs.Tree.{Particle, single, size_i, tree}
 use Rattle.particle.specs.Encode.{encode, Bytes}
 use Rattle.particle.proofs.ItemEncodes.{length_encode}
 use Rattle.tidying.specs.Depth.{depth_of}
-use Rattle.intake.specs.declared.Checked.TheVariants.{Accepted}
 use Rattle.intake.specs.Limits.{max_depth}
 use Rattle.intake.specs.Faults.{Known}
 use Rattle.intake.specs.Scan.{alone}
@@ -115,7 +115,7 @@ joined_none c z = joined_absent c (empty (present (levels c)) (chain_count c ∙
     empty [] e = refl
     empty (t ∷ ts) e = absurd (omega arith)
 
-pub joined_some : (c : List ℕ) → Bytes c → chain_ok c ≡ true → levels_refusal (levels c) ≡ Accepted → (n : ℕ) → present_in (counts c) ≡ suc n → (x : Particle) × (joined_tree c ≡ some x) × Joins n (trees_part c) x
+pub joined_some : (c : List ℕ) → Bytes c → chain_ok c ≡ true → levels_refusal (levels c) ≡ Ok tt → (n : ℕ) → present_in (counts c) ≡ suc n → (x : Particle) × (joined_tree c ≡ some x) × Joins n (trees_part c) x
 joined_some c b k a n z = go (present (levels c)) refl
   where
     go : (ts : List (List ℕ)) → present (levels c) ≡ ts → (x : Particle) × (joined_tree c ≡ some x) × Joins n (trees_part c) x
@@ -132,11 +132,11 @@ module _ {n : ℕ} {t : List ℕ} {x : Particle} (j : Joins n t x) where
   joins_size = omega (arith, length_encode (single x), ap length j.bytes, length_nested n t)
 
   -- the check of a tree alone refuses a join just where it breaks a limit
-  pub joins_within : refusal_alone (nested n t) ≡ Accepted → over_limits x ≡ false
+  pub joins_within : refusal_alone (nested n t) ≡ Ok tt → over_limits x ≡ false
   joins_within e = accepted_within alone x (ap refusal_alone j.bytes ∙ e)
 
-  pub joins_accepted : over_limits x ≡ false → refusal_alone (nested n t) ≡ Accepted
+  pub joins_accepted : over_limits x ≡ false → refusal_alone (nested n t) ≡ Ok tt
   joins_accepted l = ap refusal_alone (sym j.bytes) ∙ fits_accepted alone x (j.fits l)
 
-  pub joins_refused : (refusal_alone (nested n t) ≡ Accepted → ⊥) → over_limits x ≡ true
+  pub joins_refused : (refusal_alone (nested n t) ≡ Ok tt → ⊥) → over_limits x ≡ true
   joins_refused h = one_broken x (λ l. h (joins_accepted l))

@@ -1,4 +1,5 @@
 -- The levels of a chain: how many are present, what their bytes are one after another, and what their acceptance says of each. Assumes nothing.
+use Rattle.std.specs.Prelude.{Ok}
 use mathlib.Core.Bool.{true, ◌&&◌}
 use mathlib.Core.List.{List, [], ◌∷◌, map, flatten}
 use mathlib.Core.Option.{Option, none, some}
@@ -13,7 +14,6 @@ use Rattle.particle.specs.Tree.{Particle, tree}
 use Rattle.particle.specs.Encode.{Bytes}
 use Rattle.particle.proofs.RoundTrip.{bytes_drop, bytes_take}
 use Rattle.particle.proofs.Tests.{and-true, both_true}
-use Rattle.intake.specs.declared.Checked.TheVariants.{Accepted}
 use Rattle.intake.specs.Scan.{alone}
 use Rattle.intake.proofs.AcceptedFits.{or_else_lem}
 use Rattle.entries.specs.Answer.{refusal_alone}
@@ -58,13 +58,13 @@ trees_present [] = refl
 trees_present (none ∷ ls) = trees_present ls
 trees_present (some t ∷ ls) = ap (λ (xs : List Particle). tree t ∷ xs) (trees_present ls)
 
-pub accepted_levels : (ls : List (Option (List ℕ))) → levels_refusal ls ≡ Accepted → Each (AcceptedIn alone) (present ls)
+pub accepted_levels : (ls : List (Option (List ℕ))) → levels_refusal ls ≡ Ok tt → Each (AcceptedIn alone) (present ls)
 unfolding levels_refusal present Each
 accepted_levels [] e = tt
 accepted_levels (none ∷ ls) e = accepted_levels ls e
 accepted_levels (some t ∷ ls) e = let o = or_else_lem (refusal_alone t) (levels_refusal ls) e in (o.0, accepted_levels ls o.1)
 
-pub absent_accepted : (ls : List (Option (List ℕ))) → present ls ≡ [] → levels_refusal ls ≡ Accepted
+pub absent_accepted : (ls : List (Option (List ℕ))) → present ls ≡ [] → levels_refusal ls ≡ Ok tt
 unfolding levels_refusal present
 absent_accepted [] e = refl
 absent_accepted (none ∷ ls) e = absent_accepted ls e

@@ -1,19 +1,17 @@
 -- What the loops over the levels keep: what is left of their counts and of their trees. Assumes nothing.
+use Rattle.std.specs.Prelude.{Result, Ok, Err}
 use mathlib.Core.Path.{◌≡◌, refl, ap, sym, ◌∙◌}
-use mathlib.Core.Bool.{true, cond}
+use mathlib.Core.Bool.{Bool, true, false, cond}
 use mathlib.Core.List.{List, [], ◌∷◌}
 use Prim.Native.Nat.{ℕ, zero, suc, ◌+◌, ◌*◌, ◌-◌, ◌≤◌, ◌<◌}
 use native.Mathlib.Omega.{arith}
 use lib.Dec.{eqb}
 use lib.ListN.{length, take, drop, length-drop}
 use lib.Seq.{drop-drop, length-take-le}
-use borrow.Author.Tests.{eq-eqb, ne_eqb}
+use borrow.Author.Tests.{ne_eqb}
 use Rattle.particle.specs.Record.{record_size, half}
 use Rattle.particle.proofs.Records.{half_drop}
-use Rattle.particle.proofs.Laws.{part_is}
 use Rattle.intake.specs.declared.Fault.{Fault}
-use Rattle.intake.specs.declared.Checked.{Checked}
-use Rattle.intake.specs.declared.Checked.TheVariants.{Accepted, Refused}
 use Rattle.intake.specs.Scan.{or_else}
 use Rattle.entries.specs.Answer.{refusal_alone}
 use Rattle.chain.specs.Layout.{level_count, count_size, count_in, counts_in, count_at, counts, sum, trees_part, levels_in, levels}
@@ -118,17 +116,14 @@ pub levels_start : (c : List ℕ) → chain_ok c ≡ true → {n : ℕ} → n �
 unfolding levels
 levels_start c ok e f = record { within = omega arith; refusal = rw (all_counts c e, f); size = rw (all_counts c e, f) (trees_length c ok) }
 
--- the refusal of a level whose tree is t
-pub absent_accepted : (t : List ℕ) → length t ≡ 0 → Accepted ≡ cond (eqb (length t) 0) Accepted (refusal_alone t)
-absent_accepted t e = rw (eq-eqb (length t) 0 e)
-
-pub present_checked : (t : List ℕ) → (length t ≡ 0 → ⊥) → {x : Checked} → x ≡ refusal_alone t → x ≡ cond (eqb (length t) 0) Accepted (refusal_alone t)
-present_checked t n e = rw (ne_eqb (length t) 0 n) e
+-- the refusal of the levels after i, of k records, whose tree rest starts with
+abbrev later_refusal : (c : List ℕ) (n i k : ℕ) (rest : List ℕ) → Result (Unit {0}) Fault
+later_refusal c n i k rest = levels_refusal (levels_in (counts_from c n (i + 1)) (drop (record_size * k) rest))
 
 -- the refusal of a level of k records
 levels_cons : (k : ℕ) (ks rest : List ℕ) → record_size * k ≤ length rest
     → levels_refusal (levels_in (k ∷ ks) rest)
-    ≡ or_else (cond (eqb (length (take (record_size * k) rest)) 0) Accepted (refusal_alone (take (record_size * k) rest))) (levels_refusal (levels_in ks (drop (record_size * k) rest)))
+    ≡ cond (eqb (length (take (record_size * k) rest)) 0) (levels_refusal (levels_in ks (drop (record_size * k) rest))) (or_else (refusal_alone (take (record_size * k) rest)) (levels_refusal (levels_in ks (drop (record_size * k) rest))))
 unfolding levels_in levels_refusal
 levels_cons zero ks rest l = refl
 levels_cons (suc k) ks rest l = rw (ne_eqb (length (take (record_size * suc k) rest)) 0 (λ q. omega (arith, length-take-le (record_size * suc k) rest l)))
@@ -141,23 +136,25 @@ module _ {c : List ℕ} {n : ℕ} {rest : List ℕ} {i : ℕ} (v : LevelsLeft c 
   unfolding sum
   level_within = omega (arith, v.size, ap sum turn)
 
-  pub level_length : record_size * k ≡ length (take (record_size * k) rest)
-  level_length = sym (length-take-le (record_size * k) rest level_within)
+  -- the level's tree is t, and b whether that is absent
+  module _ {t : List ℕ} (is : t ≡ take (record_size * k) rest) {b : Bool} (absent : b ≡ eqb (length t) 0) where
+    found : levels_refusal (levels c) ≡ cond b (later_refusal c n i k rest) (or_else (refusal_alone t) (later_refusal c n i k rest))
+    found = v.refusal ∙ (ap (λ (ks : List ℕ). levels_refusal (levels_in ks rest)) turn ∙ rw (absent, is) (levels_cons k (counts_from c n (i + 1)) rest level_within))
 
-  -- the check found x in its tree
-  module _ {x : Checked} (f : x ≡ cond (eqb (length (take (record_size * k) rest)) 0) Accepted (refusal_alone (take (record_size * k) rest))) where
-    found : levels_refusal (levels c) ≡ or_else x (levels_refusal (levels_in (counts_from c n (i + 1)) (drop (record_size * k) rest)))
-    found = v.refusal ∙ (ap (λ (ks : List ℕ). levels_refusal (levels_in ks rest)) turn ∙ (levels_cons k (counts_from c n (i + 1)) rest level_within ∙ rw (← f)))
-
-    pub level_refused : {g : Fault} → x ≡ Refused g → Refused g ≡ levels_refusal (levels c)
-    level_refused r = sym (found ∙ rw r)
-
-    pub level_next : x ≡ Accepted → LevelsLeft c n (take (length rest - record_size * k) (drop (record_size * k) rest)) (i + 1)
+    next : {later : List ℕ} → later ≡ drop (record_size * k) rest → levels_refusal (levels c) ≡ later_refusal c n i k rest → LevelsLeft c n later (i + 1)
     unfolding sum
-    level_next r =
-        rw (part_is rest (record_size * k))
-        (record { within = omega arith; refusal = found ∙ rw r; size = omega (arith, v.size, ap sum turn, length-drop (record_size * k) rest) })
+    next e r = record { within = omega arith; refusal = rw e r; size = rw e (omega (arith, v.size, ap sum turn, length-drop (record_size * k) rest)) }
 
-pub levels_done : {c : List ℕ} {n : ℕ} {rest : List ℕ} {i : ℕ} → LevelsLeft c n rest i → n ≤ i → Accepted ≡ levels_refusal (levels c)
+    pub level_absent : b ≡ true → {later : List ℕ} → later ≡ drop (record_size * k) rest → LevelsLeft c n later (i + 1)
+    level_absent z e = next e (found ∙ rw z)
+
+    module _ (z : b ≡ false) where
+      pub level_accepted : Ok tt ≡ refusal_alone t → {later : List ℕ} → later ≡ drop (record_size * k) rest → LevelsLeft c n later (i + 1)
+      level_accepted a e = next e (found ∙ rw (z, ← a))
+
+      pub level_refused : {f : Fault} → Err f ≡ refusal_alone t → Err f ≡ levels_refusal (levels c)
+      level_refused a = sym (found ∙ rw (z, ← a))
+
+pub levels_done : {c : List ℕ} {n : ℕ} {rest : List ℕ} {i : ℕ} → LevelsLeft c n rest i → n ≤ i → Ok tt ≡ levels_refusal (levels c)
 unfolding levels_in levels_refusal
 levels_done {c} {n} {i = i} v h = sym (v.refusal ∙ rw (counts_none c n i h))

@@ -1,4 +1,5 @@
 -- What is turned away, and when nothing is written. Assumes nothing.
+use Rattle.std.specs.Prelude.{Ok}
 use mathlib.Core.Bool.{true, false, false≢true}
 use mathlib.Core.List.{List, [], ◌∷◌}
 use mathlib.Core.Logic.{inl, inr, ⊎_elim, ◌↔◌}
@@ -14,7 +15,6 @@ use Rattle.particle.proofs.Tests.{or-true, left_true, right_true}
 use Rattle.tidying.specs.Depth.{depth_of}
 use Rattle.intake.specs.declared.Refusal.{Refusal}
 use Rattle.intake.specs.declared.Refusal.TheVariants.{Buffer, Derived, Chain, Limit}
-use Rattle.intake.specs.declared.Checked.TheVariants.{Accepted}
 use Rattle.intake.specs.Limits.{max_depth}
 use Rattle.intake.specs.Number.{refusal_number}
 use Rattle.intake.specs.Scan.{alone}
@@ -40,7 +40,7 @@ over_iff x =
       ⊎_elim (λ l. left_true r d (lt-ltb max_records (size_i (single x)) l)) (λ l. right_true r d (lt-ltb max_depth (depth_of (single x)) l)),
     )
 
-chain_over : (c out : List ℕ) → chain_ok c ≡ true → levels_refusal (levels c) ≡ Accepted → {x : Particle} → joined_tree c ≡ some x → over_limits x ≡ true → chain_answer c out ≡ refused (refusal_number Limit)
+chain_over : (c out : List ℕ) → chain_ok c ≡ true → levels_refusal (levels c) ≡ Ok tt → {x : Particle} → joined_tree c ≡ some x → over_limits x ≡ true → chain_answer c out ≡ refused (refusal_number Limit)
 chain_over c out k a i l = of_levels c out k a ∙ rw (i, l)
 
 all_absent : (c out : List ℕ) → chain_ok c ≡ true → present (levels c) ≡ [] → chain_answer c out ≡ gives none
@@ -54,7 +54,7 @@ pub limit_exactly : LimitExactly
 limit_exactly c out = (go (reached c out), back)
   where
     Over : Type 0
-    Over = (chain_ok c ≡ true) × (levels_refusal (levels c) ≡ Accepted) × ((x : Particle) × (joined_tree c ≡ some x) × OverALimit x)
+    Over = (chain_ok c ≡ true) × (levels_refusal (levels c) ≡ Ok tt) × ((x : Particle) × (joined_tree c ≡ some x) × OverALimit x)
 
     go : {a : Answer (Option ℕ)} → Reached c out a → a ≡ refused (refusal_number Limit) → Over
     go (no_chain k) e = absurd (apart Chain Limit (λ z. cc) e)

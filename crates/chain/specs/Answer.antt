@@ -1,20 +1,19 @@
 -- What joining a chain into a lent buffer answers, and what the buffer then holds. Assumes nothing: these are definitions.
-use Rattle.std.specs.Prelude.{Bool, cond, ◌&&◌, ◌||◌, List, [], ◌∷◌, ℕ, ◌*◌, eqb, leb, ltb, length}
+use Rattle.std.specs.Prelude.{Bool, cond, ◌&&◌, ◌||◌, List, [], ◌∷◌, ℕ, ◌*◌, eqb, leb, ltb, length, Result, Ok, Err, Some, None}
+use Rattle.std.specs.Prelude as rust
 use Rattle.std.proofs.Math.Option.{Option, none, some}
 use Rattle.particle.specs.Record.{record_size, max_records}
 use Rattle.particle.specs.Tree.{Particle, single, size_i, tree}
 use Rattle.particle.specs.Encode.{encode}
 use Rattle.tidying.specs.Depth.{depth_of}
-use Rattle.intake.specs.declared.Checked.{Checked}
-use Rattle.intake.specs.declared.Checked.TheVariants as checked
+use Rattle.intake.specs.declared.Fault.{Fault}
+use Rattle.intake.specs.declared.Refusal.{Refusal}
 use Rattle.intake.specs.declared.Refusal.TheVariants.{Buffer, Derived, Chain, Limit}
 use Rattle.intake.specs.Limits.{max_depth}
 use Rattle.intake.specs.Number.{refusal_number}
 use Rattle.intake.specs.Scan.{or_else}
 use Rattle.entries.specs.Answer.{Answer, gives, refused, refusal_alone}
 use Rattle.entries.specs.TidyAnswer.{starting_with}
-use Rattle.chain.specs.declared.JoinedAnswer.{JoinedAnswer}
-use Rattle.chain.specs.declared.JoinedAnswer.TheVariants as j
 use Rattle.chain.specs.Layout.{max_levels, level_count, whole_length, levels}
 use Rattle.chain.specs.Effective.{effective_particle}
 
@@ -23,8 +22,8 @@ unfoldable pub chain_ok : List ℕ → Bool
 chain_ok c = leb 1 (level_count c) && (leb (level_count c) max_levels && eqb (length c) (whole_length c))
 
 -- 10 to 14: the first refusal of the trees that are present, each as a tree alone
-unfoldable pub levels_refusal : List (Option (List ℕ)) → Checked
-levels_refusal [] = checked.Accepted
+unfoldable pub levels_refusal : List (Option (List ℕ)) → Result (Unit {0}) Fault
+levels_refusal [] = Ok tt
 levels_refusal (none ∷ later) = levels_refusal later
 levels_refusal (some t ∷ later) = or_else (refusal_alone t) (levels_refusal later)
 
@@ -50,9 +49,9 @@ content_answer (some x) room =
     (cond (ltb room (record_size * size_i (single x))) (refused (refusal_number Buffer))
     (gives (some (size_i (single x)))))
 
-abbrev pub after_levels : Checked → Answer (Option ℕ) → Answer (Option ℕ)
-after_levels (checked.Refused f) next = refused (refusal_number (Derived f))
-after_levels checked.Accepted next = next
+abbrev pub after_levels : Result (Unit {0}) Fault → Answer (Option ℕ) → Answer (Option ℕ)
+after_levels (Err f) next = refused (refusal_number (Derived f))
+after_levels (Ok _) next = next
 
 -- 15, then 10 to 14, then 16, then 2; else the joined tree's record count, or none for 'no content'
 unfoldable pub chain_answer : (c out : List ℕ) → Answer (Option ℕ)
@@ -71,8 +70,8 @@ buffer_after (gives (some n)) (some x) out = starting_with (encode (single x)) o
 unfoldable pub chain_buffer : (c out : List ℕ) → List ℕ
 chain_buffer c out = buffer_after (chain_answer c out) (joined_tree c) out
 
--- what each case of the answer's enum stands for
-abbrev pub joined_meaning : JoinedAnswer → Answer (Option ℕ)
-joined_meaning (j.Records n) = gives (some n)
-joined_meaning j.NoContent = gives none
-joined_meaning (j.Refused r) = refused (refusal_number r)
+-- what each case of the entry's result stands for; its option is Rust's
+abbrev pub joined_meaning : Result (rust.Option ℕ) Refusal → Answer (Option ℕ)
+joined_meaning (Ok (Some n)) = gives (some n)
+joined_meaning (Ok None) = gives none
+joined_meaning (Err r) = refused (refusal_number r)

@@ -1,7 +1,7 @@
 -- What the theorems of document 02 §1 state. They speak of `chain_answer` and `chain_buffer`. The contract of the entry `effective_particle` is that its answer r to
 -- the chain c and the buffer out has joined_meaning r ≡ chain_answer c out, and that out then is chain_buffer c out; so they hold of what the entry answers and writes.
 -- Assumes nothing: these are definitions.
-use Rattle.std.specs.Prelude.{true, List, [], ◌∷◌, map, ◌⊎◌, ◌↔◌, ◌≡◌, ℕ, ◌*◌, ◌<◌, take}
+use Rattle.std.specs.Prelude.{true, List, [], ◌∷◌, map, ◌⊎◌, ◌↔◌, ◌≡◌, ℕ, ◌*◌, ◌<◌, take, Ok, Err}
 use Rattle.std.proofs.Math.Option.{none, some}
 use Rattle.particle.specs.Record.{record_size, max_records}
 use Rattle.particle.specs.Tree.{Head, element, wildcard, sequence, choice, all, Items, Particle, single, size_i, tree}
@@ -10,15 +10,12 @@ use Rattle.language.specs.Language.{InOrder, Names, Allows}
 use Rattle.language.specs.Premises.{Throughout}
 use Rattle.tidying.specs.Depth.{depth_of}
 use Rattle.intake.specs.declared.Fault.{Fault}
-use Rattle.intake.specs.declared.Checked.TheVariants.{Accepted}
 use Rattle.intake.specs.declared.Refusal.TheVariants.{Base, Limit}
 use Rattle.intake.specs.Limits.{max_depth}
 use Rattle.intake.specs.Number.{refusal_number}
 use Rattle.intake.specs.Faults.{Known}
 use Rattle.intake.specs.Scan.{refusal_in}
 use Rattle.entries.specs.Answer.{gives, refused, refusal_alone}
-use Rattle.sheet.specs.declared.SheetChecked.TheVariants.{Refused}
-use Rattle.sheet.specs.declared.SheetChecked.TheVariants as sheet
 use Rattle.sheet.specs.Layout.{base_part}
 use Rattle.sheet.specs.Refused.{known_in, sheet_refusal}
 use Rattle.sheet.specs.Fits.{Paper, encode_sheet, Each, known_by, PaperFits}
@@ -37,11 +34,11 @@ written_bytes c out n = take (record_size * n) (chain_buffer c out)
 
 -- The bytes written are accepted as a tree alone, and the tree that they are is the joined tree.
 abbrev pub JoinedAccepted : Type 0
-JoinedAccepted = (c out : List ℕ) (n : ℕ) → Answers c out n → (refusal_alone (written_bytes c out n) ≡ Accepted) × (joined_tree c ≡ some (tree (written_bytes c out n)))
+JoinedAccepted = (c out : List ℕ) (n : ℕ) → Answers c out n → (refusal_alone (written_bytes c out n) ≡ Ok tt) × (joined_tree c ≡ some (tree (written_bytes c out n)))
 
 -- the bytes are accepted as a tree over these leaves
 abbrev pub AcceptedIn : Known → List ℕ → Type 0
-AcceptedIn known t = refusal_in known t ≡ Accepted
+AcceptedIn known t = refusal_in known t ≡ Ok tt
 
 -- The bytes written fit any leaves that each of the chain's trees fits.
 abbrev pub JoinedFitsLeaves : Type 0
@@ -50,7 +47,7 @@ JoinedFitsLeaves = (c out : List ℕ) (n : ℕ) → Answers c out n → (known :
 -- So a sheet with them as its base, whose leaf list each of the trees fits, is never refused 5 to 9, and its base tree is the joined tree.
 abbrev pub JoinedBase : Type 0
 JoinedBase = (c out : List ℕ) (n : ℕ) → Answers c out n → (s : List ℕ) → base_part s ≡ written_bytes c out n → Each (AcceptedIn (known_in s)) (present (levels c))
-    → ((f : Fault) → ¬ (sheet_refusal s ≡ Refused (Base f))) × (joined_tree c ≡ some (tree (base_part s)))
+    → ((f : Fault) → ¬ (sheet_refusal s ≡ Err (Base f))) × (joined_tree c ≡ some (tree (base_part s)))
 
 -- the leaf is known by its kind and number; a group asks nothing
 abbrev pub LeafKnown : Known → Head → Items → Type 0
@@ -63,7 +60,7 @@ LeafKnown known (all p) k = Unit {0}
 -- Nor is one whose leaves have the joined tree's numbers and kinds.
 abbrev pub JoinedBaseKinds : Type 0
 JoinedBaseKinds = (c out : List ℕ) (n : ℕ) → Answers c out n → (s : List ℕ) → base_part s ≡ written_bytes c out n → Throughout (LeafKnown (known_in s)) (tree (base_part s))
-    → ((f : Fault) → ¬ (sheet_refusal s ≡ Refused (Base f))) × (joined_tree c ≡ some (tree (base_part s)))
+    → ((f : Fault) → ¬ (sheet_refusal s ≡ Err (Base f))) × (joined_tree c ≡ some (tree (base_part s)))
 
 -- the paper with this tree as its base
 abbrev pub with_base : Paper → Particle → Paper
@@ -72,7 +69,7 @@ with_base p x = record { leaves = p.leaves; first = p.first; second = p.second; 
 -- Such a sheet is accepted where the rest of it is in order: so is that of every paper which meets document 01's conditions, once the joined tree takes the place of its base. Its base part then is the bytes written.
 abbrev pub JoinedSheetAccepted : Type 0
 JoinedSheetAccepted = (c out : List ℕ) (n : ℕ) → Answers c out n → (p : Paper) → PaperFits p → Throughout (LeafKnown (known_by p.leaves)) (tree (written_bytes c out n))
-    → (sheet_refusal (encode_sheet (with_base p (tree (written_bytes c out n)))) ≡ sheet.Accepted) × (base_part (encode_sheet (with_base p (tree (written_bytes c out n)))) ≡ written_bytes c out n)
+    → (sheet_refusal (encode_sheet (with_base p (tree (written_bytes c out n)))) ≡ Ok tt) × (base_part (encode_sheet (with_base p (tree (written_bytes c out n)))) ≡ written_bytes c out n)
 
 -- What it allows -----------------------------------------------------------------------
 
@@ -92,11 +89,11 @@ OverALimit x = (max_records < size_i (single x)) ⊎ (max_depth < depth_of (sing
 
 -- Refused 16 are exactly the chains of accepted trees whose joined tree is over a limit.
 abbrev pub LimitExactly : Type 0
-LimitExactly = (c out : List ℕ) → (chain_answer c out ≡ refused (refusal_number Limit)) ↔ ((chain_ok c ≡ true) × (levels_refusal (levels c) ≡ Accepted) × ((x : Particle) × (joined_tree c ≡ some x) × OverALimit x))
+LimitExactly = (c out : List ℕ) → (chain_answer c out ≡ refused (refusal_number Limit)) ↔ ((chain_ok c ≡ true) × (levels_refusal (levels c) ≡ Ok tt) × ((x : Particle) × (joined_tree c ≡ some x) × OverALimit x))
 
 -- It is over a limit exactly where its bytes are no tree alone.
 abbrev pub OverExactly : Type 0
-OverExactly = (c : List ℕ) → Bytes c → levels_refusal (levels c) ≡ Accepted → (x : Particle) → joined_tree c ≡ some x → OverALimit x ↔ (¬ (refusal_alone (encode (single x)) ≡ Accepted))
+OverExactly = (c : List ℕ) → Bytes c → levels_refusal (levels c) ≡ Ok tt → (x : Particle) → joined_tree c ≡ some x → OverALimit x ↔ (¬ (refusal_alone (encode (single x)) ≡ Ok tt))
 
 -- 'No content' is the answer to exactly the chains whose every level is absent.
 abbrev pub NoContentExactly : Type 0

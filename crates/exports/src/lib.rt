@@ -14,7 +14,6 @@ ghost use Rattle.types.specs.Builtin.{builtin_parents};
 ghost use Rattle.types.specs.Answer.{type_meaning, type_answer, fill_meaning, fill_answer, filled_sheet};
 ghost use Rattle.exports.specs.Numbers.{mark_number, total_min_number, total_max_number, min_number, max_number, emptiable_number, count_number, joined_number, verdict_number, filled_number, written};
 
-use chain::JoinedAnswer;
 use marking::MarkAnswer;
 use totals::{TotalMax, TotalMin};
 use types::{FilledAnswer, TypeAnswer};
@@ -110,9 +109,9 @@ pub fn marker_effective_particle(chain: &[u8], out: &mut [u8]) -> u64
     ensures out_after { out.new ≡ chain_buffer chain.now out.old }
 {
     match chain::effective_particle(chain, out) {
-        JoinedAnswer::Records(n) => n as u64,
-        JoinedAnswer::NoContent => 0,
-        JoinedAnswer::Refused(r) => BEYOND + u64::from(u32::from(r)),
+        Ok(Some(n)) => n as u64,
+        Ok(None) => 0,
+        Err(r) => BEYOND + u64::from(u32::from(r)),
     }
 }
 

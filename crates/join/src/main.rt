@@ -2,7 +2,6 @@
 // error says why: `no content` or `refused N`.
 #![tactic(auto)]
 
-use chain::JoinedAnswer;
 use std::io;
 use streams::ROOM;
 
@@ -12,8 +11,8 @@ fn main(rt: HostRuntime) -> io::Result<()> {
     let chain = streams::read_rest(&mut rt.stdin(), &mut buf)?;
     let mut out = [0u8; ROOM];
     match chain::effective_particle(chain, &mut out) {
-        JoinedAnswer::Records(k) => streams::print_tree(&rt, &out, k),
-        JoinedAnswer::NoContent => eprintln!(rt; "no content"),
-        JoinedAnswer::Refused(r) => eprintln!(rt; "{r}"),
+        Ok(Some(k)) => streams::print_tree(&rt, &out, k),
+        Ok(None) => eprintln!(rt; "no content"),
+        Err(r) => eprintln!(rt; "{r}"),
     }
 }

@@ -1,10 +1,9 @@
 -- The loop of `tidy_items`: what is written after each item, and what is left to read. Assumes nothing.
 use mathlib.Core.Path.{◌≡◌, refl, ap, sym, ◌∙◌}
-use mathlib.Core.Bool.{Bool, true, false, not}
+use mathlib.Core.Bool.{Bool, true}
 use mathlib.Core.List.{List}
 use Prim.Native.Nat.{ℕ, suc, ◌+◌, ◌*◌, ◌-◌, ◌≤◌, ◌<◌}
 use native.Mathlib.Omega.{arith}
-use borrow.Author.Tests.{not-false}
 use mir.Syntax.{w64}
 use mir.Val.{Fits}
 use lib.ListN.{length, take, drop}
@@ -54,7 +53,7 @@ pub read_within : {t before out : List ℕ} {at : ℕ} {x : Items} {r : Written}
 read_within {t} w = omega (arith, w.read, run_within t)
 
 -- no item is read
-pub none_read : {g : Record} {t before : List ℕ} {at : ℕ} {s : List ℕ} {b : Bool} → Room t 1 before at → g ≡ record_at t → s ≡ items_part t → b ≡ is_tidied (head_of g) → not b ≡ false
+pub none_read : {g : Record} {t before : List ℕ} {at : ℕ} {s : List ℕ} {b : Bool} → Room t 1 before at → g ≡ record_at t → s ≡ items_part t → b ≡ is_tidied (head_of g) → b ≡ true
     → ItemsLeft t before at (record { group = g; at = at; count = 0; end = at + record_size }) before record_size s g.count 0
 unfolding count_i ◌then◌
 none_read {g} {t} {before} {at} q e p y y' =
@@ -62,7 +61,7 @@ none_read {g} {t} {before} {at} q e p y y' =
     rw p (record {
       root = e;
       there = refl;
-      group = sym y ∙ not-false _ y';
+      group = sym y ∙ y';
       place = q;
       done = none;
       laid = laid_none before (at + record_size);

@@ -1,10 +1,9 @@
 -- What `tidy_tree` leaves where it calls nothing: a tree without items, or one that is copied as it is. Assumes nothing.
 use mathlib.Core.Path.{◌≡◌, refl, ap, sym, ◌∙◌}
-use mathlib.Core.Bool.{Bool, true, false, not, true≢false, false≢true}
+use mathlib.Core.Bool.{Bool, true, false, true≢false, false≢true}
 use mathlib.Core.List.{List}
 use Prim.Native.Nat.{ℕ, suc, ◌+◌, ◌≤◌}
 use native.Mathlib.Omega.{arith}
-use borrow.Author.Tests.{not-true}
 use mir.Syntax.{w64}
 use mir.Val.{Fits}
 use lib.ListN.{length}
@@ -83,9 +82,9 @@ module _ {t out : List ℕ} {at : ℕ} (q : Room t 1 out at) {g : Record} (e : g
       }
 
   -- the tree as it is
-  pub unaltered : {after : List ℕ} {r : Written} {b : Bool} → b ≡ is_tidied (head_of g) → not b ≡ true → Writes t out after at (row 1 t) r → Writes t out after at (tidied t) r
+  pub unaltered : {after : List ℕ} {r : Written} {b : Bool} → b ≡ is_tidied (head_of g) → b ≡ false → Writes t out after at (row 1 t) r → Writes t out after at (tidied t) r
   unaltered n n' a =
-      let h : is_tidied (tree t).head ≡ false = ap (λ (x : Particle). is_tidied x.head) tree_parts ∙ (sym n ∙ not-true _ n') in
+      let h : is_tidied (tree t).head ≡ false = ap (λ (x : Particle). is_tidied x.head) tree_parts ∙ (sym n ∙ n') in
       let x : row 1 t ≡ tidied t = row_one q.trees ∙ ap single (sym (tidy_other (tree t) h)) in
       record { read = a.read; laid = rw x at a.laid }
 

@@ -1,31 +1,27 @@
 -- `chain::check_levels` meets its contract. Assumes nothing.
+use Rattle.std.proofs.lemmas.Result.{err_from_is_err_and}
 use Rattle.chain.proofs.Lengths.{not_empty, counts_within}
-use Rattle.chain.proofs.Loops.{count_there, levels_start, level_within, level_length, level_refused, level_next, levels_done}
+use Rattle.chain.proofs.Loops.{count_there, levels_start, level_within, level_absent, level_accepted, level_refused, levels_done}
 use Rattle.chain.proofs.check_levels.Goals as goal
+use Rattle.chain.proofs.check_levels.Goals.{then-not-is_empty+in_ok-check_alone, else-not-is_empty}
 
-pub level_count-n-requires : goal.level_count-n-requires
-level_count-n-requires c = search not_empty
+pub level_count-i-end-requires : goal.level_count-i-end-requires
+level_count-i-end-requires c = search not_empty
 
 pub loop-i-init : goal.loop-i-init
 loop-i-init c = search levels_start
 
-pub count-len-requires-clause-count_size_in_bounds : goal.count-len-requires-clause-count_size_in_bounds
-count-len-requires-clause-count_size_in_bounds c = search (count_there, counts_within)
+pub count-requires-clause-count_size_in_bounds : goal.count-requires-clause-count_size_in_bounds
+count-requires-clause-count_size_in_bounds c = search (count_there, counts_within)
 
-pub slice_bounds-check_level-end : goal.slice_bounds-check_level-end
-slice_bounds-check_level-end c = search level_length
+pub split_at-requires : goal.split_at-requires
+split_at-requires c = search level_within
 
-pub returns-in-Refused : goal.returns-in-Refused
-returns-in-Refused c = search level_refused
-
-pub slice_bounds-next-count : goal.slice_bounds-next-count
-slice_bounds-next-count c = search level_within
-
-pub slice_bounds-next-start : goal.slice_bounds-next-start
-slice_bounds-next-start c = search level_within
+pub returns-in_err-check_alone : goal.returns-in_err-check_alone
+returns-in_err-check_alone c = let p = err_from_is_err_and c.from_residual.result c.from_residual.ensures.1 in rw (p.1, p.2) (search (level_refused, c.in_err-check_alone.ensures))
 
 pub loop-i-preserved : goal.loop-i-preserved
-loop-i-preserved c = search level_next
+loop-i-preserved c = elim c.if-not-is_empty.branch [ then-not-is_empty+in_ok-check_alone w ↦ search (level_accepted, w.in_ok-check_alone.ensures) | else-not-is_empty w ↦ search level_absent ]
 
 pub returns : goal.returns
 returns c = search levels_done

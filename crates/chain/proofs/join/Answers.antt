@@ -11,8 +11,8 @@ returns-then-records-gt-MAX_RECORDS c = search too_many
 pub nest-end-requires : goal.nest-end-requires
 nest-end-requires c = search nest_room
 
-pub returns-in-Refused : goal.returns-in-Refused
-returns-in-Refused c = search too_deep
+pub returns-then-is_err : goal.returns-then-is_err
+returns-then-is_err c = search (too_deep)
 
 pub returns-then-out-end : goal.returns-then-out-end
 returns-then-out-end c = search too_short

@@ -4,11 +4,11 @@ use Rattle.exports.specs.Numbers.{joined_number}
 use Rattle.exports.proofs.Means.{number_of, sum_of}
 use Rattle.exports.proofs.marker_effective_particle.Goals as goal
 
-pub returns-in-Records-clause-value : goal.returns-in-Records-clause-value
-returns-in-Records-clause-value c = search (number_of joined_meaning joined_number)
+pub returns-in-Ok-Some-clause-value : goal.returns-in-Ok-Some-clause-value
+returns-in-Ok-Some-clause-value c = search (number_of joined_meaning joined_number)
 
-pub returns-in-NoContent-clause-value : goal.returns-in-NoContent-clause-value
-returns-in-NoContent-clause-value c = search (number_of joined_meaning joined_number)
+pub returns-in-Ok-None-clause-value : goal.returns-in-Ok-None-clause-value
+returns-in-Ok-None-clause-value c = search (number_of joined_meaning joined_number)
 
-pub returns-in-Refused-clause-value : goal.returns-in-Refused-clause-value
-returns-in-Refused-clause-value c = search (number_of joined_meaning joined_number, sum_of)
+pub returns-in-Err-clause-value : goal.returns-in-Err-clause-value
+returns-in-Err-clause-value c = search (number_of joined_meaning joined_number, sum_of)
