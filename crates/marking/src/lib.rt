@@ -19,7 +19,7 @@ ghost use Rattle.marking.specs.Answer.{mark_of_sheet, mark_sheet, mark_meaning, 
 
 use intake::Refusal;
 use particle::Subtree;
-use verdicts::{Reason, Verdict};
+use verdicts::{Paper, Reason, Verdict};
 
 // The length of the longest tree in bytes.
 const CAPACITY: usize = particle::RECORD_SIZE * particle::MAX_RECORDS;
@@ -77,7 +77,7 @@ fn mark_tidied(d: &[u8], b: &[u8], leaves: &[u8], tables: &[u8], n: u8) -> Verdi
     if early_pass(d, b) {
         return Verdict::Ok;
     }
-    restriction::restrict(d, false, b, false, leaves, tables, n)
+    restriction::restrict(d, false, b, false, &Paper { leaves, tables, n })
 }
 
 // The mark of an accepted sheet: both trees are tidied and measured first, in the buffers.

@@ -23,10 +23,11 @@ use Rattle.rules.specs.Walk.{◌⟦◌⟧, Judge, recurse_ordered, alternatives,
 use Rattle.rules.specs.Rule.{any_number, times_count, rule}
 use Rattle.rules.proofs.Unfolds.{mark_unfolds}
 use Rattle.verdicts.specs.declared.Verdict.{Verdict}
-use Rattle.verdicts.specs.Paper.{leaves_of, tables_of}
+use Rattle.verdicts.specs.declared.leaves.Paper.{Paper}
+use Rattle.verdicts.specs.Paper.{paper_leaves, paper_tables}
 use Rattle.verdicts.specs.Reasons.{mark_of}
 use Rattle.verdicts.proofs.Marks.{NotOk, ended}
-use Rattle.restriction.specs.Views.{once_head, as_once, each_once, any_head, as_any, judge}
+use Rattle.restriction.specs.Views.{once_head, as_once, each_once, any_head, as_any, paper_judge}
 use Rattle.restriction.specs.Marks.{sequence_mark, choice_mark}
 use Rattle.restriction.proofs.Heads.{head_again, once_same, any_same, once_again, any_again, once_never}
 use Rattle.restriction.proofs.Parts.{row_count, weight}
@@ -60,7 +61,7 @@ module _ {seen : Head → Head} {t : List ℕ} {r : Record} {p : Occurs} {s : Li
   own_head = sym (head_again r.leaf (range_of r) r.kind) ∙ rw S.kind
 
 -- both trees, and the sheet; m is what they weigh
-pub record Sides (leaves tables : List ℕ) (n : ℕ) (once any : Bool) (d b : List ℕ) (dr br : Record) (p q : Occurs) (ds bs : List ℕ) (dk bk m : ℕ) : Type 0 where
+pub record Sides (paper : Paper) (once any : Bool) (d b : List ℕ) (dr br : Record) (p q : Occurs) (ds bs : List ℕ) (dk bk m : ℕ) : Type 0 where
   pub derived : Side (once_head once) d dr p ds dk
   pub base : Side (any_head any) b br q bs bk
   pub weighs : weight 0 d b ≡ m
@@ -70,13 +71,13 @@ pub read_side : {seen : Head → Head} {t : List ℕ} {r : Record} {p : Occurs} 
     → (k ≡ kind_number (head_of r)) × (k ≤ 4) → Side seen t r p s k
 read_side w e o b k = record { whole = w; first = e; pair = o; below = b; kind = k.0; small = k.1 }
 
-pub both : (leaves tables : List ℕ) (n : ℕ) {once any : Bool} {d b : List ℕ} {dr br : Record} {p q : Occurs} {ds bs : List ℕ} {dk bk m : ℕ}
+pub both : (paper : Paper) {once any : Bool} {d b : List ℕ} {dr br : Record} {p q : Occurs} {ds bs : List ℕ} {dk bk m : ℕ}
     → Run 1 d → Run 1 b → dr ≡ record_at d → br ≡ record_at b → p ≡ pair_of (once_head once (head_of dr)) → q ≡ pair_of (any_head any (head_of br)) → ds ≡ items_part d → bs ≡ items_part b
-    → (dk ≡ kind_number (head_of dr)) × (dk ≤ 4) → (bk ≡ kind_number (head_of br)) × (bk ≤ 4) → weight 0 d b ≡ m → Sides leaves tables n once any d b dr br p q ds bs dk bk m
-both leaves tables n dw bw de be po qo dse bse dk bk m = record { derived = read_side dw de po dse dk; base = read_side bw be qo bse bk; weighs = m }
+    → (dk ≡ kind_number (head_of dr)) × (dk ≤ 4) → (bk ≡ kind_number (head_of br)) × (bk ≤ 4) → weight 0 d b ≡ m → Sides paper once any d b dr br p q ds bs dk bk m
+both paper dw bw de be po qo dse bse dk bk m = record { derived = read_side dw de po dse dk; base = read_side bw be qo bse bk; weighs = m }
 
-module _ {leaves tables : List ℕ} {n : ℕ} {once any : Bool} {d b : List ℕ} {dr br : Record} {p q : Occurs} {ds bs : List ℕ} {dk bk m : ℕ}
-    (S : Sides leaves tables n once any d b dr br p q ds bs dk bk m) where
+module _ {paper : Paper} {once any : Bool} {d b : List ℕ} {dr br : Record} {p q : Occurs} {ds bs : List ℕ} {dk bk m : ℕ}
+    (S : Sides paper once any d b dr br p q ds bs dk bk m) where
   -- what the calls ask: less weight, and rows of trees
   pub to_readings : (j : ℕ) → j < 5 → 5 * dk + bk ≡ j → (weight 5 d bs < m) × (Run 1 d × ((once_head once (tree d).head ≡ element dr.leaf p) × Run br.count bs))
   to_readings j low key = (omega (arith, S.weighs, side_shorter S.base), (S.derived.whole, (rw (side_tree S.derived) (derived_element (omega arith)), side_items S.base)))
@@ -94,16 +95,16 @@ module _ {leaves tables : List ℕ} {n : ℕ} {once any : Bool} {d b : List ℕ}
   to_both = (omega (arith, S.weighs, side_shorter S.derived, side_shorter S.base), (side_items S.derived, side_items S.base))
 
   abbrev the_mark : Mark
-  the_mark = judge leaves tables n (as_once once (tree d)) (as_any any (tree b))
+  the_mark = paper_judge paper (as_once once (tree d)) (as_any any (tree b))
 
   abbrev L : Leaves
-  L = leaves_of leaves
+  L = paper_leaves paper
 
   abbrev T : Tables
-  T = tables_of n tables
+  T = paper_tables paper
 
   abbrev J : Judge
-  J = judge leaves tables n
+  J = paper_judge paper
 
   -- the items
   abbrev di : Items
@@ -219,11 +220,11 @@ module _ {leaves tables : List ℕ} {n : ℕ} {once any : Bool} {d b : List ℕ}
   sequence_choice_arm key = arm 2 3 (omega arith) key ∙ rw (row_count (side_items S.derived))
 
 -- two elements that the first table keeps apart, told by their records alone
-pub elements_apart : (leaves tables : List ℕ) (n : ℕ) (once any : Bool) {d b : List ℕ} {dr br : Record} → Run 1 d → Run 1 b → dr ≡ record_at d → br ≡ record_at b → dr.kind ≡ 0 → br.kind ≡ 0
-    → (v : Verdict) → mark_of v ≡ (tables_of n tables).first dr.leaf br.leaf → NotOk v → mark_of v ≡ judge leaves tables n (as_once once (tree d)) (as_any any (tree b))
+pub elements_apart : (paper : Paper) (once any : Bool) {d b : List ℕ} {dr br : Record} → Run 1 d → Run 1 b → dr ≡ record_at d → br ≡ record_at b → dr.kind ≡ 0 → br.kind ≡ 0
+    → (v : Verdict) → mark_of v ≡ (paper_tables paper).first dr.leaf br.leaf → NotOk v → mark_of v ≡ paper_judge paper (as_once once (tree d)) (as_any any (tree b))
 unfolding rule
-elements_apart leaves tables n once any {d} {b} {dr} {br} dw bw de be dk bk v e apart =
-    let s : Sides leaves tables n once any d b dr br (pair_of (once_head once (head_of dr))) (pair_of (any_head any (head_of br))) (items_part d) (items_part b) 0 0 (weight 0 d b) = record {
+elements_apart paper once any {d} {b} {dr} {br} dw bw de be dk bk v e apart =
+    let s : Sides paper once any d b dr br (pair_of (once_head once (head_of dr))) (pair_of (any_head any (head_of br))) (items_part d) (items_part b) 0 0 (weight 0 d b) = record {
       derived = record { whole = dw; first = de; pair = refl; below = refl; kind = rw dk; small = omega arith };
       base = record { whole = bw; first = be; pair = refl; below = refl; kind = rw bk; small = omega arith };
       weighs = refl;

@@ -18,9 +18,10 @@ use Rattle.rules.specs.Walk.{◌⟦◌⟧, Judge}
 use Rattle.rules.specs.Rule.{rule}
 use Rattle.rules.specs.Mark.{restrict}
 use Rattle.rules.proofs.Unfolds.{mark_unfolds}
-use Rattle.verdicts.specs.Paper.{leaves_of, tables_of}
+use Rattle.verdicts.specs.declared.leaves.Paper.{Paper}
+use Rattle.verdicts.specs.Paper.{paper_leaves, paper_tables}
 use Rattle.restriction.specs.declared.marks.Marks.{Marks}
-use Rattle.restriction.specs.Views.{as_once, any_head, judge}
+use Rattle.restriction.specs.Views.{as_once, any_head, paper_judge}
 use Rattle.restriction.specs.Marks.{BothMarks, sequence_mark, sequence_once, choice_mark, choice_once}
 use Rattle.restriction.proofs.Heads.{any_again}
 use Rattle.restriction.proofs.Readings.{once_sequence, once_choice}
@@ -50,24 +51,24 @@ module _ (L : Leaves) (T : Tables) (l : ℕ) (k : Items) (q : Occurs) (b : Items
   choice_level p = (own_choice (exactly 1) ∙ once_choice J q (element l (exactly 1) ⟦ k ⟧) b, own_choice p)
 
 -- an element of pair p at the start of d, the sheet, and what has been read of b
-pub record Against (leaves tables : List ℕ) (n : ℕ) (d : List ℕ) (leaf : ℕ) (p : Occurs) (b : List ℕ) (br : Record) (q : Occurs) (bs : List ℕ) (bk : ℕ) : Type 0 where
+pub record Against (paper : Paper) (d : List ℕ) (leaf : ℕ) (p : Occurs) (b : List ℕ) (br : Record) (q : Occurs) (bs : List ℕ) (bk : ℕ) : Type 0 where
   pub derived : (tree d).head ≡ element leaf p
   pub base : Side (any_head false) b br q bs bk
 
-pub against : (leaves tables : List ℕ) (n : ℕ) {d : List ℕ} {leaf : ℕ} {p : Occurs} {b : List ℕ} {br : Record} {q : Occurs} {bs : List ℕ} {bk : ℕ}
+pub against : (paper : Paper) {d : List ℕ} {leaf : ℕ} {p : Occurs} {b : List ℕ} {br : Record} {q : Occurs} {bs : List ℕ} {bk : ℕ}
     → (tree d).head ≡ element leaf p → Run 1 b → br ≡ record_at b → q ≡ pair_of (any_head false (head_of br)) → bs ≡ items_part b → (bk ≡ kind_number (head_of br)) × (bk ≤ 4)
-    → Against leaves tables n d leaf p b br q bs bk
-against leaves tables n h w e o b k = record { derived = h; base = read_side w e o b k }
+    → Against paper d leaf p b br q bs bk
+against paper h w e o b k = record { derived = h; base = read_side w e o b k }
 
-module _ {leaves tables : List ℕ} {n : ℕ} {d : List ℕ} {leaf : ℕ} {p : Occurs} {b : List ℕ} {br : Record} {q : Occurs} {bs : List ℕ} {bk : ℕ} (S : Against leaves tables n d leaf p b br q bs bk) (marks : Marks) where
+module _ {paper : Paper} {d : List ℕ} {leaf : ℕ} {p : Occurs} {b : List ℕ} {br : Record} {q : Occurs} {bs : List ℕ} {bk : ℕ} (S : Against paper d leaf p b br q bs bk) (marks : Marks) where
   abbrev Jd : Judge
-  Jd = judge leaves tables n
+  Jd = paper_judge paper
 
   abbrev T : Tables
-  T = tables_of n tables
+  T = paper_tables paper
 
   abbrev L : Leaves
-  L = leaves_of leaves
+  L = paper_leaves paper
 
   abbrev bi : Items
   bi = row br.count bs

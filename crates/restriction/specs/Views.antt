@@ -8,6 +8,7 @@ use Rattle.particle.specs.Tree.{Head, element, wildcard, sequence, choice, all, 
 use Rattle.rules.specs.Walk.{◌⟦◌⟧, Judge}
 use Rattle.rules.specs.Rule.{any_number}
 use Rattle.rules.specs.Mark.{restrict}
+use Rattle.verdicts.specs.declared.leaves.Paper.{Paper}
 use Rattle.verdicts.specs.Paper.{leaves_of, tables_of}
 
 -- the pair (1,1): an element that has it, or that is wrapped, counts once
@@ -50,6 +51,10 @@ as_any any y = any_head any y.head ⟦ y.items ⟧
 -- the mark of two trees by the leaves and the tables of a sheet with n leaves
 abbrev pub judge : (leaves tables : List ℕ) (n : ℕ) → Judge
 judge leaves tables n = restrict (leaves_of leaves) (tables_of n tables)
+
+-- by those of the code's `Paper`
+abbrev pub paper_judge : Paper → Judge
+paper_judge p = judge p.leaves.now p.tables.now p.n
 
 -- the reason where a range isn't within the range of a base group of the same kind: sequences, or choices, whose walk is lax
 abbrev pub range_reason : (lax : Bool) → ℕ

@@ -20,59 +20,43 @@ ghost use Rattle.rules.specs.Combine.{◌or_fails◌, ◌and_then◌};
 ghost use Rattle.rules.specs.Walk.{recurse_ordered, alternatives, each_member};
 ghost use Rattle.rules.specs.Rule.{times_count};
 ghost use Rattle.verdicts.specs.Reasons.{reason_number, mark_of};
-ghost use Rattle.restriction.specs.Views.{once_head, as_once, each_once, as_any, judge, range_reason};
+ghost use Rattle.restriction.specs.Views.{once_head, as_once, each_once, as_any, paper_judge, range_reason};
 ghost use Rattle.restriction.specs.Marks.{sequence_mark, choice_mark};
 
 use marks::{choice_marks, sequence_marks};
 use pairs::{base_range, counts_once, derived_range, exactly_one, kind_of, times_count};
 use particle::Occurs;
 use rows::{group_all, left_over};
-use verdicts::{Reason, Verdict};
+use verdicts::{Paper, Reason, Verdict};
 
 // The first tree of d against the first of b. With once, an element of d counts with the pair (1,1); with any, a wildcard of b with (0, unbounded).
 // Two elements that the first table keeps apart take no further call.
 #[cycle(restrict)]
-pub fn restrict(
-    d: &[u8],
-    once: bool,
-    b: &[u8],
-    any: bool,
-    leaves: &[u8],
-    tables: &[u8],
-    n: u8,
-) -> Verdict
-    requires run { Run 1 d.now }
-    requires run_2 { Run 1 b.now }
-    ensures { mark_of result ≡ judge leaves.now tables.now n (as_once once (tree d.now)) (as_any any (tree b.now)) }
+pub fn restrict(d: &[u8], once: bool, b: &[u8], any: bool, paper: &Paper) -> Verdict
+    requires d_run { Run 1 d.now }
+    requires b_run { Run 1 b.now }
+    ensures { mark_of result ≡ paper_judge paper.now (as_once once (tree d.now)) (as_any any (tree b.now)) }
 {
     let dr = particle::record_at(d);
     let br = particle::record_at(b);
     if dr.kind == particle::ELEMENT {
         if br.kind == particle::ELEMENT {
-            let v = verdicts::first(dr.leaf, br.leaf, tables, n);
+            let v = paper.first(dr.leaf, br.leaf);
             let Verdict::Ok = v else {
                 return v;
             };
         }
     }
-    let v = by_kinds(&d[..], once, &b[..], any, leaves, tables, n);
+    let v = by_kinds(&d[..], once, &b[..], any, paper);
     v
 }
 
 // The same by the two kinds, as one number: each selects its rule.
 #[cycle(restrict)]
-fn by_kinds(
-    d: &[u8],
-    once: bool,
-    b: &[u8],
-    any: bool,
-    leaves: &[u8],
-    tables: &[u8],
-    n: u8,
-) -> Verdict
-    requires run { Run 1 d.now }
-    requires run_2 { Run 1 b.now }
-    ensures { mark_of result ≡ judge leaves.now tables.now n (as_once once (tree d.now)) (as_any any (tree b.now)) }
+fn by_kinds(d: &[u8], once: bool, b: &[u8], any: bool, paper: &Paper) -> Verdict
+    requires d_run { Run 1 d.now }
+    requires b_run { Run 1 b.now }
+    ensures { mark_of result ≡ paper_judge paper.now (as_once once (tree d.now)) (as_any any (tree b.now)) }
 {
     let dr = particle::record_at(d);
     let br = particle::record_at(b);
@@ -84,40 +68,40 @@ fn by_kinds(
     let bn = br.count as usize;
     let one = exactly_one();
     match 5 * kind_of(dr) + kind_of(br) {
-        0 => verdicts::element_restrict(dr.leaf, p, br.leaf, q, tables, n),
-        1 => verdicts::element_wildcard(dr.leaf, p, br.leaf, q, tables, n),
-        2 => element_sequence(&d[..], once, dr.leaf, p, bs, bn, q, leaves, tables, n),
-        3 => element_choice(&d[..], once, dr.leaf, p, bs, bn, q, leaves, tables, n),
+        0 => paper.element_restrict(dr.leaf, p, br.leaf, q),
+        1 => paper.element_wildcard(dr.leaf, p, br.leaf, q),
+        2 => element_sequence(&d[..], once, dr.leaf, p, bs, bn, q, paper),
+        3 => element_choice(&d[..], once, dr.leaf, p, bs, bn, q, paper),
         4 => Verdict::Unknown,
         5 => Verdict::Violation(Reason::WildcardElement),
-        6 => verdicts::wildcard_wildcard(dr.leaf, p, br.leaf, q, leaves, tables, n),
+        6 => paper.wildcard_wildcard(dr.leaf, p, br.leaf, q),
         7 => Verdict::Violation(Reason::WildcardGroup),
         8 => Verdict::Violation(Reason::WildcardGroup),
         9 => Verdict::Violation(Reason::WildcardGroup),
-        10 => same_kind(ds, dn, false, p, &b[..], 1, one, false, leaves, tables, n),
+        10 => same_kind(ds, dn, false, p, &b[..], 1, one, false, paper),
         11 => {
-            let v = group_wildcard(&d[..], ds, dn, &b[..], q, leaves, tables, n);
+            let v = group_wildcard(&d[..], ds, dn, &b[..], q, paper);
             v
         }
-        12 => same_kind(ds, dn, false, p, bs, bn, q, false, leaves, tables, n),
-        13 => sequence_choice(ds, dn, p, bs, bn, q, leaves, tables, n),
+        12 => same_kind(ds, dn, false, p, bs, bn, q, false, paper),
+        13 => sequence_choice(ds, dn, p, bs, bn, q, paper),
         14 => {
-            let v = group_all(ds, dn, p, bs, bn, q, false, leaves, tables, n);
+            let v = group_all(ds, dn, p, bs, bn, q, false, paper);
             v
         }
-        15 => same_kind(ds, dn, false, p, &b[..], 1, one, true, leaves, tables, n),
+        15 => same_kind(ds, dn, false, p, &b[..], 1, one, true, paper),
         16 => {
-            let v = group_wildcard(&d[..], ds, dn, &b[..], q, leaves, tables, n);
+            let v = group_wildcard(&d[..], ds, dn, &b[..], q, paper);
             v
         }
-        18 => same_kind(ds, dn, false, p, bs, bn, q, true, leaves, tables, n),
+        18 => same_kind(ds, dn, false, p, bs, bn, q, true, paper),
         20 => Verdict::Unknown,
         21 => {
-            let v = group_wildcard(&d[..], ds, dn, &b[..], q, leaves, tables, n);
+            let v = group_wildcard(&d[..], ds, dn, &b[..], q, paper);
             v
         }
         24 => {
-            let v = group_all(ds, dn, p, bs, bn, q, true, leaves, tables, n);
+            let v = group_all(ds, dn, p, bs, bn, q, true, paper);
             v
         }
         _ => Verdict::Violation(Reason::GroupKind),
@@ -133,13 +117,11 @@ fn recurse_ordered(
     bs: &[u8],
     bn: usize,
     lax: bool,
-    leaves: &[u8],
-    tables: &[u8],
-    n: u8,
+    paper: &Paper,
 ) -> Verdict
-    requires run { Run dn ds.now }
-    requires run_2 { Run bn bs.now }
-    ensures { mark_of result ≡ recurse_ordered (judge leaves.now tables.now n) lax (each_once once (row dn ds.now)) (row bn bs.now) }
+    requires ds_run { Run dn ds.now }
+    requires bs_run { Run bn bs.now }
+    ensures { mark_of result ≡ recurse_ordered (paper_judge paper.now) lax (each_once once (row dn ds.now)) (row bn bs.now) }
 {
     let mut seen = false;
     let mut ditems = ds;
@@ -156,7 +138,7 @@ fn recurse_ordered(
             let bnext = particle::next(b);
             bitems = bnext;
             j -= 1;
-            match restrict(d, once, b, false, leaves, tables, n) {
+            match restrict(d, once, b, false, paper) {
                 Verdict::Ok => {
                     continue 'derived;
                 }
@@ -191,13 +173,11 @@ fn any_alternative(
     bs: &[u8],
     bn: usize,
     reason: Reason,
-    leaves: &[u8],
-    tables: &[u8],
-    n: u8,
+    paper: &Paper,
 ) -> Verdict
-    requires run { Run 1 d.now }
-    requires run_2 { Run bn bs.now }
-    ensures { mark_of result ≡ alternatives (judge leaves.now tables.now n) (reason_number reason) (as_once once (tree d.now)) (row bn bs.now) }
+    requires d_run { Run 1 d.now }
+    requires bs_run { Run bn bs.now }
+    ensures { mark_of result ≡ alternatives (paper_judge paper.now) (reason_number reason) (as_once once (tree d.now)) (row bn bs.now) }
 {
     let mut seen = false;
     let mut bitems = bs;
@@ -207,7 +187,7 @@ fn any_alternative(
         let next = particle::next(b);
         bitems = next;
         left -= 1;
-        match restrict(d, once, b, false, leaves, tables, n) {
+        match restrict(d, once, b, false, paper) {
             Verdict::Ok => {
                 return Verdict::Ok;
             }
@@ -231,16 +211,14 @@ fn same_kind(
     bn: usize,
     q: Occurs,
     lax: bool,
-    leaves: &[u8],
-    tables: &[u8],
-    n: u8,
+    paper: &Paper,
 ) -> Verdict
-    requires run { Run dn ds.now }
-    requires run_2 { Run bn bs.now }
-    ensures { mark_of result ≡ range_ok p q or_fails range_reason lax and_then recurse_ordered (judge leaves.now tables.now n) lax (each_once once (row dn ds.now)) (row bn bs.now) }
+    requires ds_run { Run dn ds.now }
+    requires bs_run { Run bn bs.now }
+    ensures { mark_of result ≡ range_ok p q or_fails range_reason lax and_then recurse_ordered (paper_judge paper.now) lax (each_once once (row dn ds.now)) (row bn bs.now) }
 {
     if particle::range_ok(p, q) {
-        return recurse_ordered(ds, dn, once, bs, bn, lax, leaves, tables, n);
+        return recurse_ordered(ds, dn, once, bs, bn, lax, paper);
     }
     if lax {
         return Verdict::Violation(Reason::ChoiceRange);
@@ -259,19 +237,17 @@ fn element_sequence(
     bs: &[u8],
     bn: usize,
     q: Occurs,
-    leaves: &[u8],
-    tables: &[u8],
-    n: u8,
+    paper: &Paper,
 ) -> Verdict
-    requires run { Run 1 d.now }
-    requires d_value { once_head once (tree d.now).head ≡ element leaf p }
-    requires run_2 { Run bn bs.now }
-    ensures { mark_of result ≡ sequence_mark (judge leaves.now tables.now n) p q (as_once true (tree d.now)) (as_once once (tree d.now)) (row bn bs.now) }
+    requires d_run { Run 1 d.now }
+    requires d_element { once_head once (tree d.now).head ≡ element leaf p }
+    requires bs_run { Run bn bs.now }
+    ensures { mark_of result ≡ sequence_mark (paper_judge paper.now) p q (as_once true (tree d.now)) (as_once once (tree d.now)) (row bn bs.now) }
 {
     if counts_once(p) {
-        return same_kind(d, 1, true, p, bs, bn, q, false, leaves, tables, n);
+        return same_kind(d, 1, true, p, bs, bn, q, false, paper);
     }
-    let marks = sequence_marks(d, leaf, p, bs, bn, q, leaves, tables, n);
+    let marks = sequence_marks(d, leaf, p, bs, bn, q, paper);
     marks.own
 }
 
@@ -285,41 +261,30 @@ fn element_choice(
     bs: &[u8],
     bn: usize,
     q: Occurs,
-    leaves: &[u8],
-    tables: &[u8],
-    n: u8,
+    paper: &Paper,
 ) -> Verdict
-    requires run { Run 1 d.now }
-    requires d_value { once_head once (tree d.now).head ≡ element leaf p }
-    requires run_2 { Run bn bs.now }
-    ensures { mark_of result ≡ choice_mark (judge leaves.now tables.now n) p q (as_once true (tree d.now)) (as_once once (tree d.now)) (row bn bs.now) }
+    requires d_run { Run 1 d.now }
+    requires d_element { once_head once (tree d.now).head ≡ element leaf p }
+    requires bs_run { Run bn bs.now }
+    ensures { mark_of result ≡ choice_mark (paper_judge paper.now) p q (as_once true (tree d.now)) (as_once once (tree d.now)) (row bn bs.now) }
 {
     if counts_once(p) {
         if !particle::range_ok(p, q) {
             return Verdict::Violation(Reason::ChoiceRange);
         }
-        return any_alternative(d, true, bs, bn, Reason::NotAllowed, leaves, tables, n);
+        return any_alternative(d, true, bs, bn, Reason::NotAllowed, paper);
     }
-    let marks = choice_marks(d, leaf, p, bs, bn, q, leaves, tables, n);
+    let marks = choice_marks(d, leaf, p, bs, bn, q, paper);
     marks.own
 }
 
 // Group against wildcard: total range, then each member against the wildcard with pair (0, unbounded).
 #[cycle(restrict)]
-fn group_wildcard(
-    group: &[u8],
-    ds: &[u8],
-    dn: usize,
-    b: &[u8],
-    q: Occurs,
-    leaves: &[u8],
-    tables: &[u8],
-    n: u8,
-) -> Verdict
-    requires run { Run 1 group.now }
-    requires run_2 { Run dn ds.now }
-    requires run_3 { Run 1 b.now }
-    ensures { mark_of result ≡ total_ok (total (tree group.now)) q or_fails 113 and_then each_member (λ x. judge leaves.now tables.now n x (as_any true (tree b.now))) (row dn ds.now) }
+fn group_wildcard(group: &[u8], ds: &[u8], dn: usize, b: &[u8], q: Occurs, paper: &Paper) -> Verdict
+    requires group_run { Run 1 group.now }
+    requires ds_run { Run dn ds.now }
+    requires b_run { Run 1 b.now }
+    ensures { mark_of result ≡ total_ok (total (tree group.now)) q or_fails 113 and_then each_member (λ x. paper_judge paper.now x (as_any true (tree b.now))) (row dn ds.now) }
 {
     if !totals::total_within(group, q) {
         return Verdict::Violation(Reason::TotalRange);
@@ -332,7 +297,7 @@ fn group_wildcard(
         let next = particle::next(d);
         members = next;
         left -= 1;
-        match by_kinds(d, false, &b[..], true, leaves, tables, n) {
+        match by_kinds(d, false, &b[..], true, paper) {
             Verdict::Ok => {}
             Verdict::Unknown => {
                 seen = true;
@@ -354,14 +319,12 @@ fn sequence_choice(
     bs: &[u8],
     bn: usize,
     q: Occurs,
-    leaves: &[u8],
-    tables: &[u8],
-    n: u8,
+    paper: &Paper,
 ) -> Verdict
-    requires run { Run dn ds.now }
-    requires dn_le_max_records { dn ≤ max_records }
-    requires run_2 { Run bn bs.now }
-    ensures { mark_of result ≡ total_ok (times_count p dn) q or_fails 116 and_then each_member (λ x. alternatives (judge leaves.now tables.now n) 117 x (row bn bs.now)) (row dn ds.now) }
+    requires ds_run { Run dn ds.now }
+    requires ds_few { dn ≤ max_records }
+    requires bs_run { Run bn bs.now }
+    ensures { mark_of result ≡ total_ok (times_count p dn) q or_fails 116 and_then each_member (λ x. alternatives (paper_judge paper.now) 117 x (row bn bs.now)) (row dn ds.now) }
 {
     if !totals::total_ok(times_count(p, dn as u32), q) {
         return Verdict::Violation(Reason::SequenceTotal);
@@ -375,7 +338,7 @@ fn sequence_choice(
         members = next;
         left -= 1;
         let reason = Reason::MemberAlternative;
-        match any_alternative(d, false, bs, bn, reason, leaves, tables, n) {
+        match any_alternative(d, false, bs, bn, reason, paper) {
             Verdict::Ok => {}
             Verdict::Unknown => {
                 seen = true;

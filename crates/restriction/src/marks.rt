@@ -11,15 +11,15 @@ ghost use Rattle.rules.specs.Combine.{◌or_fails◌, ◌and_then◌, combine_re
 ghost use Rattle.rules.specs.Element.{element_restrict};
 ghost use Rattle.rules.specs.Walk.{left_over};
 ghost use Rattle.verdicts.specs.Reasons.{reason_number, mark_of};
-ghost use Rattle.verdicts.specs.Paper.{tables_of};
-ghost use Rattle.restriction.specs.Views.{as_once, judge};
+ghost use Rattle.verdicts.specs.Paper.{paper_tables};
+ghost use Rattle.restriction.specs.Views.{as_once, paper_judge};
 ghost use Rattle.restriction.specs.Marks.{BothMarks, standing, walked_on, came_to, settled_at, sequence_once, sequence_mark, choice_once, choice_mark};
 
 use crate::pairs::{base_once, base_range, exactly_one, kind_of};
 use crate::rows::left_over;
 use crate::same_kind;
 use particle::Occurs;
-use verdicts::{Reason, Verdict};
+use verdicts::{Paper, Reason, Verdict};
 
 // The marks of an element counting once and with its own pair.
 #[derive(Clone, Copy)]
@@ -36,26 +36,26 @@ pub enum Standing {
 }
 
 // Against an element. Where the first table keeps the two apart, both marks are its verdict.
-pub fn with_element(leaf: u8, p: Occurs, m: u8, q: Occurs, tables: &[u8], n: u8) -> Marks
-    ensures { BothMarks result (element_restrict (tables_of n tables.now) leaf (exactly 1) m q) (element_restrict (tables_of n tables.now) leaf p m q) }
+pub fn with_element(leaf: u8, p: Occurs, m: u8, q: Occurs, paper: &Paper) -> Marks
+    ensures { BothMarks result (element_restrict (paper_tables paper.now) leaf (exactly 1) m q) (element_restrict (paper_tables paper.now) leaf p m q) }
 {
-    let v = verdicts::first(leaf, m, tables, n);
+    let v = paper.first(leaf, m);
     let Verdict::Ok = v else {
         return Marks { once: v, own: v };
     };
     Marks {
-        once: verdicts::element_restrict(leaf, exactly_one(), m, q, tables, n),
-        own: verdicts::element_restrict(leaf, p, m, q, tables, n),
+        once: paper.element_restrict(leaf, exactly_one(), m, q),
+        own: paper.element_restrict(leaf, p, m, q),
     }
 }
 
 // Against a wildcard.
-pub fn with_wildcard(leaf: u8, p: Occurs, m: u8, q: Occurs, tables: &[u8], n: u8) -> Marks
-    ensures { BothMarks result (range_ok (exactly 1) q or_fails 101 and_then (tables_of n tables.now).second leaf m) (range_ok p q or_fails 101 and_then (tables_of n tables.now).second leaf m) }
+pub fn with_wildcard(leaf: u8, p: Occurs, m: u8, q: Occurs, paper: &Paper) -> Marks
+    ensures { BothMarks result (range_ok (exactly 1) q or_fails 101 and_then (paper_tables paper.now).second leaf m) (range_ok p q or_fails 101 and_then (paper_tables paper.now).second leaf m) }
 {
     Marks {
-        once: verdicts::element_wildcard(leaf, exactly_one(), m, q, tables, n),
-        own: verdicts::element_wildcard(leaf, p, m, q, tables, n),
+        once: paper.element_wildcard(leaf, exactly_one(), m, q),
+        own: paper.element_wildcard(leaf, p, m, q),
     }
 }
 
@@ -78,8 +78,8 @@ pub fn walk_on(
     rest: &[u8],
     left: usize,
 ) -> Standing
-    requires run { Run 1 b.now }
-    requires run_2 { Run left rest.now }
+    requires b_run { Run 1 b.now }
+    requires rest_run { Run left rest.now }
     ensures { standing result ≡ walked_on (standing walk) (mark_of m) lax (emptiable (tree b.now)) (left_over (row left rest.now)) }
 {
     let Standing::On = walk else {
@@ -156,29 +156,21 @@ pub fn walked(within: bool, once: Standing, own: Standing) -> Marks
 
 // Both marks of the element d against the first tree of b: counting once, and with its own pair p.
 #[cycle(restrict)]
-fn element_marks(
-    d: &[u8],
-    leaf: u8,
-    p: Occurs,
-    b: &[u8],
-    leaves: &[u8],
-    tables: &[u8],
-    n: u8,
-) -> Marks
-    requires run { Run 1 d.now }
-    requires d_value { (tree d.now).head ≡ element leaf p }
-    requires run_2 { Run 1 b.now }
-    ensures { BothMarks result (judge leaves.now tables.now n (as_once true (tree d.now)) (tree b.now)) (judge leaves.now tables.now n (tree d.now) (tree b.now)) }
+fn element_marks(d: &[u8], leaf: u8, p: Occurs, b: &[u8], paper: &Paper) -> Marks
+    requires d_run { Run 1 d.now }
+    requires d_element { (tree d.now).head ≡ element leaf p }
+    requires b_run { Run 1 b.now }
+    ensures { BothMarks result (paper_judge paper.now (as_once true (tree d.now)) (tree b.now)) (paper_judge paper.now (tree d.now) (tree b.now)) }
 {
     let br = particle::record_at(b);
     let q = base_range(br, false);
     let bs = particle::items(b);
     let bn = br.count as usize;
     match kind_of(br) {
-        0 => with_element(leaf, p, br.leaf, q, tables, n),
-        1 => with_wildcard(leaf, p, br.leaf, q, tables, n),
-        2 => sequence_marks(d, leaf, p, bs, bn, q, leaves, tables, n),
-        3 => choice_marks(d, leaf, p, bs, bn, q, leaves, tables, n),
+        0 => with_element(leaf, p, br.leaf, q, paper),
+        1 => with_wildcard(leaf, p, br.leaf, q, paper),
+        2 => sequence_marks(d, leaf, p, bs, bn, q, paper),
+        3 => choice_marks(d, leaf, p, bs, bn, q, paper),
         _ => Marks {
             once: Verdict::Unknown,
             own: Verdict::Unknown,
@@ -196,18 +188,16 @@ pub fn sequence_marks(
     bs: &[u8],
     bn: usize,
     q: Occurs,
-    leaves: &[u8],
-    tables: &[u8],
-    n: u8,
+    paper: &Paper,
 ) -> Marks
-    requires run { Run 1 d.now }
-    requires d_value { (tree d.now).head ≡ element leaf p }
-    requires run_2 { Run bn bs.now }
-    ensures { BothMarks result (sequence_once (judge leaves.now tables.now n) q (as_once true (tree d.now)) (row bn bs.now)) (sequence_mark (judge leaves.now tables.now n) p q (as_once true (tree d.now)) (tree d.now) (row bn bs.now)) }
+    requires d_run { Run 1 d.now }
+    requires d_element { (tree d.now).head ≡ element leaf p }
+    requires bs_run { Run bn bs.now }
+    ensures { BothMarks result (sequence_once (paper_judge paper.now) q (as_once true (tree d.now)) (row bn bs.now)) (sequence_mark (paper_judge paper.now) p q (as_once true (tree d.now)) (tree d.now) (row bn bs.now)) }
 {
     let sequence_once = base_once(q, Reason::SequenceRequired);
     let Verdict::Ok = sequence_once else {
-        let wrapped = same_kind(d, 1, true, p, bs, bn, q, false, leaves, tables, n);
+        let wrapped = same_kind(d, 1, true, p, bs, bn, q, false, paper);
         return base_fails(Reason::SequenceRange, wrapped, sequence_once);
     };
     let within = particle::range_ok(p, q);
@@ -220,7 +210,7 @@ pub fn sequence_marks(
         let next = particle::next(b);
         bitems = next;
         left -= 1;
-        let item = element_marks(d, leaf, p, b, leaves, tables, n);
+        let item = element_marks(d, leaf, p, b, paper);
         let item_once = item.once;
         let item_own = item.own;
         once = walk_on(once, item_once, false, b, bitems, left);
@@ -242,18 +232,16 @@ pub fn choice_marks(
     bs: &[u8],
     bn: usize,
     q: Occurs,
-    leaves: &[u8],
-    tables: &[u8],
-    n: u8,
+    paper: &Paper,
 ) -> Marks
-    requires run { Run 1 d.now }
-    requires d_value { (tree d.now).head ≡ element leaf p }
-    requires run_2 { Run bn bs.now }
-    ensures { BothMarks result (choice_once (judge leaves.now tables.now n) q (as_once true (tree d.now)) (row bn bs.now)) (choice_mark (judge leaves.now tables.now n) p q (as_once true (tree d.now)) (tree d.now) (row bn bs.now)) }
+    requires d_run { Run 1 d.now }
+    requires d_element { (tree d.now).head ≡ element leaf p }
+    requires bs_run { Run bn bs.now }
+    ensures { BothMarks result (choice_once (paper_judge paper.now) q (as_once true (tree d.now)) (row bn bs.now)) (choice_mark (paper_judge paper.now) p q (as_once true (tree d.now)) (tree d.now) (row bn bs.now)) }
 {
     let choice_once = base_once(q, Reason::ChoiceRequired);
     let Verdict::Ok = choice_once else {
-        let wrapped = same_kind(d, 1, true, p, bs, bn, q, true, leaves, tables, n);
+        let wrapped = same_kind(d, 1, true, p, bs, bn, q, true, paper);
         return base_fails(Reason::ChoiceRange, wrapped, choice_once);
     };
     let within = particle::range_ok(p, q);
@@ -267,7 +255,7 @@ pub fn choice_marks(
         let next = particle::next(b);
         bitems = next;
         left -= 1;
-        let item = element_marks(d, leaf, p, b, leaves, tables, n);
+        let item = element_marks(d, leaf, p, b, paper);
         let item_once = item.once;
         let item_own = item.own;
         first = walk_on(first, item_once, true, b, bitems, left);

@@ -7,11 +7,11 @@ ghost use Rattle.particle.specs.Runs.{Run};
 ghost use Rattle.rules.specs.Combine.{◌or_fails◌, ◌and_then◌};
 ghost use Rattle.rules.specs.Walk.{left_over, recurse_unordered};
 ghost use Rattle.verdicts.specs.Reasons.{mark_of};
-ghost use Rattle.verdicts.specs.Paper.{leaves_of, tables_of};
+ghost use Rattle.verdicts.specs.Paper.{paper_leaves, paper_tables};
 ghost use Rattle.restriction.specs.Views.{all_reason};
 
 use particle::Occurs;
-use verdicts::{Reason, Verdict};
+use verdicts::{Paper, Reason, Verdict};
 
 // The first bn trees of bs, left over in an ordered walk: one that is not emptiable is missing.
 pub fn left_over(bs: &[u8], bn: usize) -> Verdict
@@ -40,17 +40,15 @@ pub fn group_all(
     bn: usize,
     q: Occurs,
     all: bool,
-    leaves: &[u8],
-    tables: &[u8],
-    n: u8,
+    paper: &Paper,
 ) -> Verdict
-    requires row { Row dn ds.now }
-    requires row_2 { Row bn bs.now }
-    requires bn_le_max_records { bn ≤ max_records }
-    ensures { mark_of result ≡ range_ok p q or_fails all_reason all and_then recurse_unordered (leaves_of leaves.now) (tables_of n tables.now) (row dn ds.now) (row bn bs.now) }
+    requires ds_row { Row dn ds.now }
+    requires bs_row { Row bn bs.now }
+    requires bs_few { bn ≤ max_records }
+    ensures { mark_of result ≡ range_ok p q or_fails all_reason all and_then recurse_unordered (paper_leaves paper.now) (paper_tables paper.now) (row dn ds.now) (row bn bs.now) }
 {
     if particle::range_ok(p, q) {
-        return verdicts::recurse_unordered(ds, dn, bs, bn, leaves, tables, n);
+        return verdicts::recurse_unordered(ds, dn, bs, bn, paper);
     }
     if all {
         return Verdict::Violation(Reason::AllRange);

@@ -1,6 +1,7 @@
 -- The leaves and the verdict tables of a sheet, as bytes. Assumes nothing: these are definitions.
 use Rattle.std.specs.Prelude.{cond, ◌&&◌, List, [], ◌∷◌, ℕ, zero, suc, ◌+◌, ◌*◌, ◌/◌, ◌%◌, eqb, leb, length, get_or}
 use Rattle.rules.specs.Verdicts.{Mark, passes, undecided, fails, Leaves, Tables}
+use Rattle.verdicts.specs.declared.leaves.Paper.{Paper}
 
 -- A leaf takes four bytes: kind (0 element, 1 wildcard), process contents, local name number (16 bits). Nothing else says where its fields stand.
 abbrev pub leaf_size : ℕ
@@ -43,3 +44,10 @@ tables_of n s = record {
   first = λ l m. verdict_of (get_or s (l * n + m) 1);
   second = λ l m. verdict_of (get_or s (n * n + l * n + m) 1);
 }
+
+-- the leaves and the tables of the code's `Paper`
+abbrev pub paper_leaves : Paper → Leaves
+paper_leaves p = leaves_of p.leaves.now
+
+abbrev pub paper_tables : Paper → Tables
+paper_tables p = tables_of p.n p.tables.now

@@ -1,13 +1,21 @@
-// Two leaves: what the tables say, and the rules for elements and wildcards.
+// A paper's leaves and verdict tables: what they say of two leaves, and the rules for elements and wildcards.
 ghost use Rattle.std.specs.Prelude.{◌≡◌, ◌*◌, ◌<◌, leb, get_or};
 ghost use Rattle.particle.specs.Occurs.{range_ok};
 ghost use Rattle.rules.specs.Combine.{◌or_fails◌, ◌and_then◌};
 ghost use Rattle.rules.specs.Element.{max_restrict, element_restrict};
 ghost use Rattle.verdicts.specs.Reasons.{mark_of};
-ghost use Rattle.verdicts.specs.Paper.{verdict_of, tables_of, leaves_of};
+ghost use Rattle.verdicts.specs.Paper.{verdict_of, paper_tables, paper_leaves};
 
-use crate::{AT_PROCESS, LEAF_SIZE, Reason, Verdict};
+use crate::{AT_NAME, AT_NAME_HIGH, AT_PROCESS, LEAF_SIZE, Reason, Verdict};
 use particle::{MaxOccurs, Occurs};
+
+// A paper's leaves and its two verdict tables, one after the other, as bytes, and the number of leaves that the tables have a row for.
+#[derive(Clone, Copy)]
+pub struct Paper<'a> {
+    pub leaves: &'a [u8],
+    pub tables: &'a [u8],
+    pub n: u8,
+}
 
 // The byte at place i; d where there is none.
 pub fn byte_or(s: &[u8], i: usize, d: u8) -> u8
@@ -38,20 +46,6 @@ fn product(a: u8, b: u8) -> usize
     (a as usize) * (b as usize)
 }
 
-// The first table's verdict on the derived leaf l and the base leaf m, of n leaves.
-pub fn first(l: u8, m: u8, tables: &[u8], n: u8) -> Verdict
-    ensures { mark_of result ≡ (tables_of n tables.now).first l m }
-{
-    verdict_at(tables, product(l, n) + (m as usize))
-}
-
-// The second table's, which stands after the first.
-fn second(l: u8, m: u8, tables: &[u8], n: u8) -> Verdict
-    ensures { mark_of result ≡ (tables_of n tables.now).second l m }
-{
-    verdict_at(tables, product(n, n) + product(l, n) + (m as usize))
-}
-
 // The derived element's maximum against the base element's.
 fn max_restrict(d: MaxOccurs, b: MaxOccurs) -> Verdict
     ensures { mark_of result ≡ max_restrict d b }
@@ -70,60 +64,80 @@ fn max_restrict(d: MaxOccurs, b: MaxOccurs) -> Verdict
     }
 }
 
-// The element verdict: first table, minimum, maximum, second table.
-pub fn element_restrict(l: u8, p: Occurs, m: u8, q: Occurs, tables: &[u8], n: u8) -> Verdict
-    ensures { mark_of result ≡ element_restrict (tables_of n tables.now) l p m q }
-{
-    let v = first(l, m, tables, n);
-    let Verdict::Ok = v else {
-        return v;
-    };
-    if p.min < q.min {
-        return Verdict::Violation(Reason::MinBelow);
+impl Paper<'_> {
+    // The first table's verdict on the derived leaf l and the base leaf m.
+    pub fn first(&self, l: u8, m: u8) -> Verdict
+        ensures { mark_of result ≡ (paper_tables self.now).first l m }
+    {
+        verdict_at(self.tables, product(l, self.n) + (m as usize))
     }
-    let pmax = p.max;
-    let qmax = q.max;
-    let w = max_restrict(pmax, qmax);
-    let Verdict::Ok = w else {
-        return w;
-    };
-    second(l, m, tables, n)
-}
 
-// Element against wildcard: range, second table.
-pub fn element_wildcard(l: u8, p: Occurs, m: u8, q: Occurs, tables: &[u8], n: u8) -> Verdict
-    ensures { mark_of result ≡ range_ok p q or_fails 101 and_then (tables_of n tables.now).second l m }
-{
-    if particle::range_ok(p, q) {
-        return second(l, m, tables, n);
+    // The second table's, which stands after the first.
+    fn second(&self, l: u8, m: u8) -> Verdict
+        ensures { mark_of result ≡ (paper_tables self.now).second l m }
+    {
+        verdict_at(
+            self.tables,
+            product(self.n, self.n) + product(l, self.n) + (m as usize),
+        )
     }
-    Verdict::Violation(Reason::ElementWildcardRange)
-}
 
-// A leaf's process contents: skip, lax, strict.
-fn strength(leaves: &[u8], l: u8) -> u8
-    ensures { result ≡ (leaves_of leaves.now).strength l }
-{
-    byte_or(leaves, LEAF_SIZE * (l as usize) + AT_PROCESS, 0)
-}
+    // A leaf's process contents: skip, lax, strict.
+    fn strength(&self, l: u8) -> u8
+        ensures { result ≡ (paper_leaves self.now).strength l }
+    {
+        byte_or(self.leaves, LEAF_SIZE * (l as usize) + AT_PROCESS, 0)
+    }
 
-// Wildcard against wildcard: range, weaker process contents, second table.
-pub fn wildcard_wildcard(
-    l: u8,
-    p: Occurs,
-    m: u8,
-    q: Occurs,
-    leaves: &[u8],
-    tables: &[u8],
-    n: u8,
-) -> Verdict
-    ensures { mark_of result ≡ range_ok p q or_fails 103 and_then leb ((leaves_of leaves.now).strength m) ((leaves_of leaves.now).strength l) or_fails 104 and_then (tables_of n tables.now).second l m }
-{
-    if particle::range_ok(p, q) {
-        if strength(leaves, l) < strength(leaves, m) {
-            return Verdict::Violation(Reason::WeakerProcessContents);
+    // A leaf's local name number.
+    pub fn local_name(&self, l: u8) -> u32
+        ensures { result ≡ (paper_leaves self.now).local_name l }
+    {
+        let at = LEAF_SIZE * (l as usize);
+        (byte_or(self.leaves, at + AT_NAME, 0) as u32)
+            + (byte_or(self.leaves, at + AT_NAME_HIGH, 0) as u32) * 256
+    }
+
+    // The element verdict: first table, minimum, maximum, second table.
+    pub fn element_restrict(&self, l: u8, p: Occurs, m: u8, q: Occurs) -> Verdict
+        ensures { mark_of result ≡ element_restrict (paper_tables self.now) l p m q }
+    {
+        let v = self.first(l, m);
+        let Verdict::Ok = v else {
+            return v;
+        };
+        if p.min < q.min {
+            return Verdict::Violation(Reason::MinBelow);
         }
-        return second(l, m, tables, n);
+        let pmax = p.max;
+        let qmax = q.max;
+        let w = max_restrict(pmax, qmax);
+        let Verdict::Ok = w else {
+            return w;
+        };
+        self.second(l, m)
     }
-    Verdict::Violation(Reason::WildcardRange)
+
+    // Element against wildcard: range, second table.
+    pub fn element_wildcard(&self, l: u8, p: Occurs, m: u8, q: Occurs) -> Verdict
+        ensures { mark_of result ≡ range_ok p q or_fails 101 and_then (paper_tables self.now).second l m }
+    {
+        if particle::range_ok(p, q) {
+            return self.second(l, m);
+        }
+        Verdict::Violation(Reason::ElementWildcardRange)
+    }
+
+    // Wildcard against wildcard: range, weaker process contents, second table.
+    pub fn wildcard_wildcard(&self, l: u8, p: Occurs, m: u8, q: Occurs) -> Verdict
+        ensures { mark_of result ≡ range_ok p q or_fails 103 and_then leb ((paper_leaves self.now).strength m) ((paper_leaves self.now).strength l) or_fails 104 and_then (paper_tables self.now).second l m }
+    {
+        if particle::range_ok(p, q) {
+            if self.strength(l) < self.strength(m) {
+                return Verdict::Violation(Reason::WeakerProcessContents);
+            }
+            return self.second(l, m);
+        }
+        Verdict::Violation(Reason::WildcardRange)
+    }
 }

@@ -9,7 +9,7 @@ ghost use Rattle.rules.specs.Combine.{combine_readings};
 ghost use Rattle.verdicts.specs.Paper.{paper_reason};
 ghost use Rattle.verdicts.specs.Reasons.{reason_number, mark_of, definite_of};
 
-pub use leaves::{element_restrict, element_wildcard, first, wildcard_wildcard};
+pub use leaves::Paper;
 pub use unordered::recurse_unordered;
 
 // A leaf's length in bytes, and where its fields stand: kind at its start, process contents, local name number (16 bits).

@@ -5,11 +5,10 @@ ghost use Rattle.particle.specs.Tree.{head_of};
 ghost use Rattle.particle.specs.Rows.{Row, row};
 ghost use Rattle.rules.specs.Walk.{take_named, untaken, recurse_unordered};
 ghost use Rattle.verdicts.specs.Reasons.{mark_of};
-ghost use Rattle.verdicts.specs.Paper.{leaves_of, tables_of};
+ghost use Rattle.verdicts.specs.Paper.{paper_leaves, paper_tables};
 ghost use Rattle.verdicts.specs.Taken.{untaken_items, has_name, found_of, MemberMark};
 
-use crate::leaves::{byte_or, element_restrict};
-use crate::{AT_NAME, AT_NAME_HIGH, LEAF_SIZE, Reason, Verdict, definite};
+use crate::{Paper, Reason, Verdict, definite};
 use particle::{MAX_RECORDS, Occurs, Record};
 
 // An untaken base element of a name: none, or the first one's leaf and pair.
@@ -19,38 +18,30 @@ enum Taken {
     Element(u8, Occurs),
 }
 
-// A leaf's local name number.
-fn local_name(leaves: &[u8], l: u8) -> u32
-    ensures { result ≡ (leaves_of leaves.now).local_name l }
-{
-    let at = LEAF_SIZE * (l as usize);
-    (byte_or(leaves, at + AT_NAME, 0) as u32) + (byte_or(leaves, at + AT_NAME_HIGH, 0) as u32) * 256
-}
-
 // Whether the item of this record is untaken and an element of this name.
-fn is_free(taken: bool, head: Record, name: u32, leaves: &[u8]) -> bool
-    ensures { result ≡ not taken && has_name (leaves_of leaves.now) name (head_of head) }
+fn is_free(taken: bool, head: Record, name: u32, paper: &Paper) -> bool
+    ensures { result ≡ not taken && has_name (paper_leaves paper.now) name (head_of head) }
 {
     if taken {
         return false;
     }
     if head.kind == particle::ELEMENT {
-        return local_name(leaves, head.leaf) == name;
+        return paper.local_name(head.leaf) == name;
     }
     false
 }
 
 // Takes the first untaken element of this name among the first bn trees of bs.
-fn take_named(bs: &[u8], bn: usize, matched: &mut [bool], name: u32, leaves: &[u8]) -> Taken
-    requires row { Row bn bs.now }
-    requires bn_in_bounds { bn ≤ length matched.old }
-    ensures { found_of result (untaken_items matched.new (row bn bs.now)) ≡ take_named (leaves_of leaves.now) name (untaken_items matched.old (row bn bs.now)) }
+fn take_named(bs: &[u8], bn: usize, matched: &mut [bool], name: u32, paper: &Paper) -> Taken
+    requires bs_row { Row bn bs.now }
+    requires bs_flagged { bn ≤ length matched.old }
+    ensures { found_of result (untaken_items matched.new (row bn bs.now)) ≡ take_named (paper_leaves paper.now) name (untaken_items matched.old (row bn bs.now)) }
 {
     let mut rest = bs;
     let mut i: usize = 0;
     while i < bn {
         let head = particle::record_at(rest);
-        if is_free(matched[i], head, name, leaves) {
+        if is_free(matched[i], head, name, paper) {
             matched[i] = true;
             return Taken::Element(head.leaf, particle::range(head));
         }
@@ -63,8 +54,8 @@ fn take_named(bs: &[u8], bn: usize, matched: &mut [bool], name: u32, leaves: &[u
 
 // At the end: 109 where an untaken one of the first bn trees of bs has a minimum above 0.
 fn untaken(bs: &[u8], bn: usize, matched: &[bool]) -> Verdict
-    requires row { Row bn bs.now }
-    requires bn_in_bounds { bn ≤ length matched.now }
+    requires bs_row { Row bn bs.now }
+    requires bs_flagged { bn ≤ length matched.now }
     ensures { mark_of result ≡ untaken (untaken_items matched.now (row bn bs.now)) }
 {
     let mut rest = bs;
@@ -89,24 +80,20 @@ fn member_restrict(
     bs: &[u8],
     bn: usize,
     matched: &mut [bool],
-    leaves: &[u8],
-    tables: &[u8],
-    n: u8,
+    paper: &Paper,
 ) -> Verdict
-    requires row { Row bn bs.now }
-    requires bn_in_bounds { bn ≤ length matched.old }
-    ensures { MemberMark (leaves_of leaves.now) (tables_of n tables.now) (head_of head) (row bn bs.now) matched.old matched.new result }
+    requires bs_row { Row bn bs.now }
+    requires bs_flagged { bn ≤ length matched.old }
+    ensures { MemberMark (paper_leaves paper.now) (paper_tables paper.now) (head_of head) (row bn bs.now) matched.old matched.new result }
 {
     if head.kind != particle::ELEMENT {
         return Verdict::Violation(Reason::MemberNotElement);
     }
-    let name = local_name(leaves, head.leaf);
-    let base = take_named(bs, bn, matched, name, leaves);
+    let name = paper.local_name(head.leaf);
+    let base = take_named(bs, bn, matched, name, paper);
     match base {
         Taken::Nothing => Verdict::Violation(Reason::NotInAll),
-        Taken::Element(m, q) => {
-            element_restrict(head.leaf, particle::range(head), m, q, tables, n)
-        }
+        Taken::Element(m, q) => { paper.element_restrict(head.leaf, particle::range(head), m, q) }
     }
 }
 
@@ -118,14 +105,12 @@ fn take_members(
     bs: &[u8],
     bn: usize,
     matched: &mut [bool],
-    leaves: &[u8],
-    tables: &[u8],
-    n: u8,
+    paper: &Paper,
 ) -> Verdict
-    requires row { Row dn ds.now }
-    requires row_2 { Row bn bs.now }
-    requires bn_in_bounds { bn ≤ length matched.old }
-    ensures { mark_of result ≡ recurse_unordered (leaves_of leaves.now) (tables_of n tables.now) (row dn ds.now) (untaken_items matched.old (row bn bs.now)) }
+    requires ds_row { Row dn ds.now }
+    requires bs_row { Row bn bs.now }
+    requires bs_flagged { bn ≤ length matched.old }
+    ensures { mark_of result ≡ recurse_unordered (paper_leaves paper.now) (paper_tables paper.now) (row dn ds.now) (untaken_items matched.old (row bn bs.now)) }
 {
     let mut seen = false;
     let mut rest = ds;
@@ -142,7 +127,7 @@ fn take_members(
             low += 1;
         }
         let head = particle::record_at(rest);
-        let v = member_restrict(head, free, bn - low, &mut matched[low..], leaves, tables, n);
+        let v = member_restrict(head, free, bn - low, &mut matched[low..], paper);
         match v {
             Verdict::Ok => {}
             Verdict::Unknown => {
@@ -160,20 +145,12 @@ fn take_members(
 }
 
 // The first dn trees of ds against the first bn of bs, as document 01 has it for all-groups.
-pub fn recurse_unordered(
-    ds: &[u8],
-    dn: usize,
-    bs: &[u8],
-    bn: usize,
-    leaves: &[u8],
-    tables: &[u8],
-    n: u8,
-) -> Verdict
-    requires row { Row dn ds.now }
-    requires row_2 { Row bn bs.now }
-    requires bn_le_max_records { bn ≤ max_records }
-    ensures { mark_of result ≡ recurse_unordered (leaves_of leaves.now) (tables_of n tables.now) (row dn ds.now) (row bn bs.now) }
+pub fn recurse_unordered(ds: &[u8], dn: usize, bs: &[u8], bn: usize, paper: &Paper) -> Verdict
+    requires ds_row { Row dn ds.now }
+    requires bs_row { Row bn bs.now }
+    requires bs_few { bn ≤ max_records }
+    ensures { mark_of result ≡ recurse_unordered (paper_leaves paper.now) (paper_tables paper.now) (row dn ds.now) (row bn bs.now) }
 {
     let mut matched = [false; MAX_RECORDS];
-    take_members(ds, dn, bs, bn, &mut matched, leaves, tables, n)
+    take_members(ds, dn, bs, bn, &mut matched, paper)
 }

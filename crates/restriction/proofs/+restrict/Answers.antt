@@ -52,117 +52,117 @@ pub by_kinds-record_at-br-requires : goal.by_kinds-record_at-br-requires
 by_kinds-record_at-br-requires t c = search (some_bytes {n = 0})
 
 pub by_kinds-element_sequence-requires : goal.by_kinds-element_sequence-requires
-by_kinds-element_sequence-requires t c = to_readings (both c.args.leaves.now c.args.tables.now c.args.n c.requires.run c.requires.run_2 c.record_at-dr.ensures c.record_at-br.ensures c.derived_range-p.ensures c.base_range-q.ensures c.items-ds.ensures c.items-bs.ensures c.kind_of.ensures c.kind_of-2.ensures c.decreases) 2 (omega arith) (search)
+by_kinds-element_sequence-requires t c = to_readings (both c.args.paper.now c.requires.d_run c.requires.b_run c.record_at-dr.ensures c.record_at-br.ensures c.derived_range-p.ensures c.base_range-q.ensures c.items-ds.ensures c.items-bs.ensures c.kind_of.ensures c.kind_of-2.ensures c.decreases) 2 (omega arith) (search)
 
 pub by_kinds-element_choice-requires : goal.by_kinds-element_choice-requires
-by_kinds-element_choice-requires t c = to_readings (both c.args.leaves.now c.args.tables.now c.args.n c.requires.run c.requires.run_2 c.record_at-dr.ensures c.record_at-br.ensures c.derived_range-p.ensures c.base_range-q.ensures c.items-ds.ensures c.items-bs.ensures c.kind_of.ensures c.kind_of-2.ensures c.decreases) 3 (omega arith) (search)
+by_kinds-element_choice-requires t c = to_readings (both c.args.paper.now c.requires.d_run c.requires.b_run c.record_at-dr.ensures c.record_at-br.ensures c.derived_range-p.ensures c.base_range-q.ensures c.items-ds.ensures c.items-bs.ensures c.kind_of.ensures c.kind_of-2.ensures c.decreases) 3 (omega arith) (search)
 
 pub by_kinds-same_kind-requires : goal.by_kinds-same_kind-requires
-by_kinds-same_kind-requires t c = to_derived (both c.args.leaves.now c.args.tables.now c.args.n c.requires.run c.requires.run_2 c.record_at-dr.ensures c.record_at-br.ensures c.derived_range-p.ensures c.base_range-q.ensures c.items-ds.ensures c.items-bs.ensures c.kind_of.ensures c.kind_of-2.ensures c.decreases)
+by_kinds-same_kind-requires t c = to_derived (both c.args.paper.now c.requires.d_run c.requires.b_run c.record_at-dr.ensures c.record_at-br.ensures c.derived_range-p.ensures c.base_range-q.ensures c.items-ds.ensures c.items-bs.ensures c.kind_of.ensures c.kind_of-2.ensures c.decreases)
 
 pub by_kinds-group_wildcard-v-requires : goal.by_kinds-group_wildcard-v-requires
-by_kinds-group_wildcard-v-requires t c = to_members (both c.args.leaves.now c.args.tables.now c.args.n c.requires.run c.requires.run_2 c.record_at-dr.ensures c.record_at-br.ensures c.derived_range-p.ensures c.base_range-q.ensures c.items-ds.ensures c.items-bs.ensures c.kind_of.ensures c.kind_of-2.ensures c.decreases)
+by_kinds-group_wildcard-v-requires t c = to_members (both c.args.paper.now c.requires.d_run c.requires.b_run c.record_at-dr.ensures c.record_at-br.ensures c.derived_range-p.ensures c.base_range-q.ensures c.items-ds.ensures c.items-bs.ensures c.kind_of.ensures c.kind_of-2.ensures c.decreases)
 
 pub by_kinds-same_kind-requires-in-12 : goal.by_kinds-same_kind-requires-in-12
-by_kinds-same_kind-requires-in-12 t c = to_both (both c.args.leaves.now c.args.tables.now c.args.n c.requires.run c.requires.run_2 c.record_at-dr.ensures c.record_at-br.ensures c.derived_range-p.ensures c.base_range-q.ensures c.items-ds.ensures c.items-bs.ensures c.kind_of.ensures c.kind_of-2.ensures c.decreases)
+by_kinds-same_kind-requires-in-12 t c = to_both (both c.args.paper.now c.requires.d_run c.requires.b_run c.record_at-dr.ensures c.record_at-br.ensures c.derived_range-p.ensures c.base_range-q.ensures c.items-ds.ensures c.items-bs.ensures c.kind_of.ensures c.kind_of-2.ensures c.decreases)
 
 pub by_kinds-sequence_choice-requires : goal.by_kinds-sequence_choice-requires
-by_kinds-sequence_choice-requires t c = let w = to_both (both c.args.leaves.now c.args.tables.now c.args.n c.requires.run c.requires.run_2 c.record_at-dr.ensures c.record_at-br.ensures c.derived_range-p.ensures c.base_range-q.ensures c.items-ds.ensures c.items-bs.ensures c.kind_of.ensures c.kind_of-2.ensures c.decreases) in (w.0, (w.1.0, (run_few w.1.0, w.1.1)))
+by_kinds-sequence_choice-requires t c = let w = to_both (both c.args.paper.now c.requires.d_run c.requires.b_run c.record_at-dr.ensures c.record_at-br.ensures c.derived_range-p.ensures c.base_range-q.ensures c.items-ds.ensures c.items-bs.ensures c.kind_of.ensures c.kind_of-2.ensures c.decreases) in (w.0, (w.1.0, (run_few w.1.0, w.1.1)))
 
 pub by_kinds-group_all-v-requires : goal.by_kinds-group_all-v-requires
-by_kinds-group_all-v-requires t c = let w = to_both (both c.args.leaves.now c.args.tables.now c.args.n c.requires.run c.requires.run_2 c.record_at-dr.ensures c.record_at-br.ensures c.derived_range-p.ensures c.base_range-q.ensures c.items-ds.ensures c.items-bs.ensures c.kind_of.ensures c.kind_of-2.ensures c.decreases) in record { row = w.1.0.row; row_2 = w.1.1.row; bn_le_max_records = run_few w.1.1 }
+by_kinds-group_all-v-requires t c = let w = to_both (both c.args.paper.now c.requires.d_run c.requires.b_run c.record_at-dr.ensures c.record_at-br.ensures c.derived_range-p.ensures c.base_range-q.ensures c.items-ds.ensures c.items-bs.ensures c.kind_of.ensures c.kind_of-2.ensures c.decreases) in record { ds_row = w.1.0.row; bs_row = w.1.1.row; bs_few = run_few w.1.1 }
 
 pub by_kinds-same_kind-requires-in-15 : goal.by_kinds-same_kind-requires-in-15
-by_kinds-same_kind-requires-in-15 t c = to_derived (both c.args.leaves.now c.args.tables.now c.args.n c.requires.run c.requires.run_2 c.record_at-dr.ensures c.record_at-br.ensures c.derived_range-p.ensures c.base_range-q.ensures c.items-ds.ensures c.items-bs.ensures c.kind_of.ensures c.kind_of-2.ensures c.decreases)
+by_kinds-same_kind-requires-in-15 t c = to_derived (both c.args.paper.now c.requires.d_run c.requires.b_run c.record_at-dr.ensures c.record_at-br.ensures c.derived_range-p.ensures c.base_range-q.ensures c.items-ds.ensures c.items-bs.ensures c.kind_of.ensures c.kind_of-2.ensures c.decreases)
 
 pub by_kinds-group_wildcard-v-requires-in-16 : goal.by_kinds-group_wildcard-v-requires-in-16
-by_kinds-group_wildcard-v-requires-in-16 t c = to_members (both c.args.leaves.now c.args.tables.now c.args.n c.requires.run c.requires.run_2 c.record_at-dr.ensures c.record_at-br.ensures c.derived_range-p.ensures c.base_range-q.ensures c.items-ds.ensures c.items-bs.ensures c.kind_of.ensures c.kind_of-2.ensures c.decreases)
+by_kinds-group_wildcard-v-requires-in-16 t c = to_members (both c.args.paper.now c.requires.d_run c.requires.b_run c.record_at-dr.ensures c.record_at-br.ensures c.derived_range-p.ensures c.base_range-q.ensures c.items-ds.ensures c.items-bs.ensures c.kind_of.ensures c.kind_of-2.ensures c.decreases)
 
 pub by_kinds-same_kind-requires-in-18 : goal.by_kinds-same_kind-requires-in-18
-by_kinds-same_kind-requires-in-18 t c = to_both (both c.args.leaves.now c.args.tables.now c.args.n c.requires.run c.requires.run_2 c.record_at-dr.ensures c.record_at-br.ensures c.derived_range-p.ensures c.base_range-q.ensures c.items-ds.ensures c.items-bs.ensures c.kind_of.ensures c.kind_of-2.ensures c.decreases)
+by_kinds-same_kind-requires-in-18 t c = to_both (both c.args.paper.now c.requires.d_run c.requires.b_run c.record_at-dr.ensures c.record_at-br.ensures c.derived_range-p.ensures c.base_range-q.ensures c.items-ds.ensures c.items-bs.ensures c.kind_of.ensures c.kind_of-2.ensures c.decreases)
 
 pub by_kinds-group_wildcard-v-requires-in-21 : goal.by_kinds-group_wildcard-v-requires-in-21
-by_kinds-group_wildcard-v-requires-in-21 t c = to_members (both c.args.leaves.now c.args.tables.now c.args.n c.requires.run c.requires.run_2 c.record_at-dr.ensures c.record_at-br.ensures c.derived_range-p.ensures c.base_range-q.ensures c.items-ds.ensures c.items-bs.ensures c.kind_of.ensures c.kind_of-2.ensures c.decreases)
+by_kinds-group_wildcard-v-requires-in-21 t c = to_members (both c.args.paper.now c.requires.d_run c.requires.b_run c.record_at-dr.ensures c.record_at-br.ensures c.derived_range-p.ensures c.base_range-q.ensures c.items-ds.ensures c.items-bs.ensures c.kind_of.ensures c.kind_of-2.ensures c.decreases)
 
 pub by_kinds-group_all-v-requires-in-24 : goal.by_kinds-group_all-v-requires-in-24
-by_kinds-group_all-v-requires-in-24 t c = let w = to_both (both c.args.leaves.now c.args.tables.now c.args.n c.requires.run c.requires.run_2 c.record_at-dr.ensures c.record_at-br.ensures c.derived_range-p.ensures c.base_range-q.ensures c.items-ds.ensures c.items-bs.ensures c.kind_of.ensures c.kind_of-2.ensures c.decreases) in record { row = w.1.0.row; row_2 = w.1.1.row; bn_le_max_records = run_few w.1.1 }
+by_kinds-group_all-v-requires-in-24 t c = let w = to_both (both c.args.paper.now c.requires.d_run c.requires.b_run c.record_at-dr.ensures c.record_at-br.ensures c.derived_range-p.ensures c.base_range-q.ensures c.items-ds.ensures c.items-bs.ensures c.kind_of.ensures c.kind_of-2.ensures c.decreases) in record { ds_row = w.1.0.row; bs_row = w.1.1.row; bs_few = run_few w.1.1 }
 
 pub by_kinds-returns-in-0 : goal.by_kinds-returns-in-0
 unfolding rule
-by_kinds-returns-in-0 t c = c.element_restrict.ensures ∙ sym (arm (both c.args.leaves.now c.args.tables.now c.args.n c.requires.run c.requires.run_2 c.record_at-dr.ensures c.record_at-br.ensures c.derived_range-p.ensures c.base_range-q.ensures c.items-ds.ensures c.items-bs.ensures c.kind_of.ensures c.kind_of-2.ensures c.decreases) 0 0 (omega arith) (search))
+by_kinds-returns-in-0 t c = c.element_restrict.ensures ∙ sym (arm (both c.args.paper.now c.requires.d_run c.requires.b_run c.record_at-dr.ensures c.record_at-br.ensures c.derived_range-p.ensures c.base_range-q.ensures c.items-ds.ensures c.items-bs.ensures c.kind_of.ensures c.kind_of-2.ensures c.decreases) 0 0 (omega arith) (search))
 
 pub by_kinds-returns-in-1 : goal.by_kinds-returns-in-1
 unfolding rule
-by_kinds-returns-in-1 t c = c.element_wildcard.ensures ∙ sym (arm (both c.args.leaves.now c.args.tables.now c.args.n c.requires.run c.requires.run_2 c.record_at-dr.ensures c.record_at-br.ensures c.derived_range-p.ensures c.base_range-q.ensures c.items-ds.ensures c.items-bs.ensures c.kind_of.ensures c.kind_of-2.ensures c.decreases) 0 1 (omega arith) (search))
+by_kinds-returns-in-1 t c = c.element_wildcard.ensures ∙ sym (arm (both c.args.paper.now c.requires.d_run c.requires.b_run c.record_at-dr.ensures c.record_at-br.ensures c.derived_range-p.ensures c.base_range-q.ensures c.items-ds.ensures c.items-bs.ensures c.kind_of.ensures c.kind_of-2.ensures c.decreases) 0 1 (omega arith) (search))
 
 pub by_kinds-returns-in-2 : goal.by_kinds-returns-in-2
-by_kinds-returns-in-2 t c = c.element_sequence.ensures ∙ sym (element_sequence_arm (both c.args.leaves.now c.args.tables.now c.args.n c.requires.run c.requires.run_2 c.record_at-dr.ensures c.record_at-br.ensures c.derived_range-p.ensures c.base_range-q.ensures c.items-ds.ensures c.items-bs.ensures c.kind_of.ensures c.kind_of-2.ensures c.decreases) (search))
+by_kinds-returns-in-2 t c = c.element_sequence.ensures ∙ sym (element_sequence_arm (both c.args.paper.now c.requires.d_run c.requires.b_run c.record_at-dr.ensures c.record_at-br.ensures c.derived_range-p.ensures c.base_range-q.ensures c.items-ds.ensures c.items-bs.ensures c.kind_of.ensures c.kind_of-2.ensures c.decreases) (search))
 
 pub by_kinds-returns-in-3 : goal.by_kinds-returns-in-3
-by_kinds-returns-in-3 t c = c.element_choice.ensures ∙ sym (element_choice_arm (both c.args.leaves.now c.args.tables.now c.args.n c.requires.run c.requires.run_2 c.record_at-dr.ensures c.record_at-br.ensures c.derived_range-p.ensures c.base_range-q.ensures c.items-ds.ensures c.items-bs.ensures c.kind_of.ensures c.kind_of-2.ensures c.decreases) (search))
+by_kinds-returns-in-3 t c = c.element_choice.ensures ∙ sym (element_choice_arm (both c.args.paper.now c.requires.d_run c.requires.b_run c.record_at-dr.ensures c.record_at-br.ensures c.derived_range-p.ensures c.base_range-q.ensures c.items-ds.ensures c.items-bs.ensures c.kind_of.ensures c.kind_of-2.ensures c.decreases) (search))
 
 pub by_kinds-returns-in-4 : goal.by_kinds-returns-in-4
 unfolding rule
-by_kinds-returns-in-4 t c = sym (arm (both c.args.leaves.now c.args.tables.now c.args.n c.requires.run c.requires.run_2 c.record_at-dr.ensures c.record_at-br.ensures c.derived_range-p.ensures c.base_range-q.ensures c.items-ds.ensures c.items-bs.ensures c.kind_of.ensures c.kind_of-2.ensures c.decreases) 0 4 (omega arith) (search))
+by_kinds-returns-in-4 t c = sym (arm (both c.args.paper.now c.requires.d_run c.requires.b_run c.record_at-dr.ensures c.record_at-br.ensures c.derived_range-p.ensures c.base_range-q.ensures c.items-ds.ensures c.items-bs.ensures c.kind_of.ensures c.kind_of-2.ensures c.decreases) 0 4 (omega arith) (search))
 
 pub by_kinds-returns-in-5 : goal.by_kinds-returns-in-5
 unfolding rule
-by_kinds-returns-in-5 t c = sym (arm (both c.args.leaves.now c.args.tables.now c.args.n c.requires.run c.requires.run_2 c.record_at-dr.ensures c.record_at-br.ensures c.derived_range-p.ensures c.base_range-q.ensures c.items-ds.ensures c.items-bs.ensures c.kind_of.ensures c.kind_of-2.ensures c.decreases) 1 0 (omega arith) (search))
+by_kinds-returns-in-5 t c = sym (arm (both c.args.paper.now c.requires.d_run c.requires.b_run c.record_at-dr.ensures c.record_at-br.ensures c.derived_range-p.ensures c.base_range-q.ensures c.items-ds.ensures c.items-bs.ensures c.kind_of.ensures c.kind_of-2.ensures c.decreases) 1 0 (omega arith) (search))
 
 pub by_kinds-returns-in-6 : goal.by_kinds-returns-in-6
 unfolding rule
-by_kinds-returns-in-6 t c = c.wildcard_wildcard.ensures ∙ sym (arm (both c.args.leaves.now c.args.tables.now c.args.n c.requires.run c.requires.run_2 c.record_at-dr.ensures c.record_at-br.ensures c.derived_range-p.ensures c.base_range-q.ensures c.items-ds.ensures c.items-bs.ensures c.kind_of.ensures c.kind_of-2.ensures c.decreases) 1 1 (omega arith) (search))
+by_kinds-returns-in-6 t c = c.wildcard_wildcard.ensures ∙ sym (arm (both c.args.paper.now c.requires.d_run c.requires.b_run c.record_at-dr.ensures c.record_at-br.ensures c.derived_range-p.ensures c.base_range-q.ensures c.items-ds.ensures c.items-bs.ensures c.kind_of.ensures c.kind_of-2.ensures c.decreases) 1 1 (omega arith) (search))
 
 pub by_kinds-returns-in-7 : goal.by_kinds-returns-in-7
 unfolding rule
-by_kinds-returns-in-7 t c = sym (arm (both c.args.leaves.now c.args.tables.now c.args.n c.requires.run c.requires.run_2 c.record_at-dr.ensures c.record_at-br.ensures c.derived_range-p.ensures c.base_range-q.ensures c.items-ds.ensures c.items-bs.ensures c.kind_of.ensures c.kind_of-2.ensures c.decreases) 1 2 (omega arith) (search))
+by_kinds-returns-in-7 t c = sym (arm (both c.args.paper.now c.requires.d_run c.requires.b_run c.record_at-dr.ensures c.record_at-br.ensures c.derived_range-p.ensures c.base_range-q.ensures c.items-ds.ensures c.items-bs.ensures c.kind_of.ensures c.kind_of-2.ensures c.decreases) 1 2 (omega arith) (search))
 
 pub by_kinds-returns-in-8 : goal.by_kinds-returns-in-8
 unfolding rule
-by_kinds-returns-in-8 t c = sym (arm (both c.args.leaves.now c.args.tables.now c.args.n c.requires.run c.requires.run_2 c.record_at-dr.ensures c.record_at-br.ensures c.derived_range-p.ensures c.base_range-q.ensures c.items-ds.ensures c.items-bs.ensures c.kind_of.ensures c.kind_of-2.ensures c.decreases) 1 3 (omega arith) (search))
+by_kinds-returns-in-8 t c = sym (arm (both c.args.paper.now c.requires.d_run c.requires.b_run c.record_at-dr.ensures c.record_at-br.ensures c.derived_range-p.ensures c.base_range-q.ensures c.items-ds.ensures c.items-bs.ensures c.kind_of.ensures c.kind_of-2.ensures c.decreases) 1 3 (omega arith) (search))
 
 pub by_kinds-returns-in-9 : goal.by_kinds-returns-in-9
 unfolding rule
-by_kinds-returns-in-9 t c = sym (arm (both c.args.leaves.now c.args.tables.now c.args.n c.requires.run c.requires.run_2 c.record_at-dr.ensures c.record_at-br.ensures c.derived_range-p.ensures c.base_range-q.ensures c.items-ds.ensures c.items-bs.ensures c.kind_of.ensures c.kind_of-2.ensures c.decreases) 1 4 (omega arith) (search))
+by_kinds-returns-in-9 t c = sym (arm (both c.args.paper.now c.requires.d_run c.requires.b_run c.record_at-dr.ensures c.record_at-br.ensures c.derived_range-p.ensures c.base_range-q.ensures c.items-ds.ensures c.items-bs.ensures c.kind_of.ensures c.kind_of-2.ensures c.decreases) 1 4 (omega arith) (search))
 
 pub by_kinds-returns-in-10 : goal.by_kinds-returns-in-10
-by_kinds-returns-in-10 t c = c.same_kind.ensures ∙ sym (sequence_element_arm (both c.args.leaves.now c.args.tables.now c.args.n c.requires.run c.requires.run_2 c.record_at-dr.ensures c.record_at-br.ensures c.derived_range-p.ensures c.base_range-q.ensures c.items-ds.ensures c.items-bs.ensures c.kind_of.ensures c.kind_of-2.ensures c.decreases) (search) (search))
+by_kinds-returns-in-10 t c = c.same_kind.ensures ∙ sym (sequence_element_arm (both c.args.paper.now c.requires.d_run c.requires.b_run c.record_at-dr.ensures c.record_at-br.ensures c.derived_range-p.ensures c.base_range-q.ensures c.items-ds.ensures c.items-bs.ensures c.kind_of.ensures c.kind_of-2.ensures c.decreases) (search) (search))
 
 pub by_kinds-returns-in-11 : goal.by_kinds-returns-in-11
-by_kinds-returns-in-11 t c = c.group_wildcard-v.ensures ∙ sym (group_wildcard_arm (both c.args.leaves.now c.args.tables.now c.args.n c.requires.run c.requires.run_2 c.record_at-dr.ensures c.record_at-br.ensures c.derived_range-p.ensures c.base_range-q.ensures c.items-ds.ensures c.items-bs.ensures c.kind_of.ensures c.kind_of-2.ensures c.decreases) 2 (omega arith) (search))
+by_kinds-returns-in-11 t c = c.group_wildcard-v.ensures ∙ sym (group_wildcard_arm (both c.args.paper.now c.requires.d_run c.requires.b_run c.record_at-dr.ensures c.record_at-br.ensures c.derived_range-p.ensures c.base_range-q.ensures c.items-ds.ensures c.items-bs.ensures c.kind_of.ensures c.kind_of-2.ensures c.decreases) 2 (omega arith) (search))
 
 pub by_kinds-returns-in-12 : goal.by_kinds-returns-in-12
-by_kinds-returns-in-12 t c = c.same_kind-in-12.ensures ∙ sym (sequences_arm (both c.args.leaves.now c.args.tables.now c.args.n c.requires.run c.requires.run_2 c.record_at-dr.ensures c.record_at-br.ensures c.derived_range-p.ensures c.base_range-q.ensures c.items-ds.ensures c.items-bs.ensures c.kind_of.ensures c.kind_of-2.ensures c.decreases) (search))
+by_kinds-returns-in-12 t c = c.same_kind-in-12.ensures ∙ sym (sequences_arm (both c.args.paper.now c.requires.d_run c.requires.b_run c.record_at-dr.ensures c.record_at-br.ensures c.derived_range-p.ensures c.base_range-q.ensures c.items-ds.ensures c.items-bs.ensures c.kind_of.ensures c.kind_of-2.ensures c.decreases) (search))
 
 pub by_kinds-returns-in-13 : goal.by_kinds-returns-in-13
-by_kinds-returns-in-13 t c = c.sequence_choice.ensures ∙ sym (sequence_choice_arm (both c.args.leaves.now c.args.tables.now c.args.n c.requires.run c.requires.run_2 c.record_at-dr.ensures c.record_at-br.ensures c.derived_range-p.ensures c.base_range-q.ensures c.items-ds.ensures c.items-bs.ensures c.kind_of.ensures c.kind_of-2.ensures c.decreases) (search))
+by_kinds-returns-in-13 t c = c.sequence_choice.ensures ∙ sym (sequence_choice_arm (both c.args.paper.now c.requires.d_run c.requires.b_run c.record_at-dr.ensures c.record_at-br.ensures c.derived_range-p.ensures c.base_range-q.ensures c.items-ds.ensures c.items-bs.ensures c.kind_of.ensures c.kind_of-2.ensures c.decreases) (search))
 
 pub by_kinds-returns-in-14 : goal.by_kinds-returns-in-14
 unfolding rule
-by_kinds-returns-in-14 t c = c.group_all-v.ensures ∙ sym (arm (both c.args.leaves.now c.args.tables.now c.args.n c.requires.run c.requires.run_2 c.record_at-dr.ensures c.record_at-br.ensures c.derived_range-p.ensures c.base_range-q.ensures c.items-ds.ensures c.items-bs.ensures c.kind_of.ensures c.kind_of-2.ensures c.decreases) 2 4 (omega arith) (search))
+by_kinds-returns-in-14 t c = c.group_all-v.ensures ∙ sym (arm (both c.args.paper.now c.requires.d_run c.requires.b_run c.record_at-dr.ensures c.record_at-br.ensures c.derived_range-p.ensures c.base_range-q.ensures c.items-ds.ensures c.items-bs.ensures c.kind_of.ensures c.kind_of-2.ensures c.decreases) 2 4 (omega arith) (search))
 
 pub by_kinds-returns-in-15 : goal.by_kinds-returns-in-15
-by_kinds-returns-in-15 t c = c.same_kind-in-15.ensures ∙ sym (choice_element_arm (both c.args.leaves.now c.args.tables.now c.args.n c.requires.run c.requires.run_2 c.record_at-dr.ensures c.record_at-br.ensures c.derived_range-p.ensures c.base_range-q.ensures c.items-ds.ensures c.items-bs.ensures c.kind_of.ensures c.kind_of-2.ensures c.decreases) (search) (search))
+by_kinds-returns-in-15 t c = c.same_kind-in-15.ensures ∙ sym (choice_element_arm (both c.args.paper.now c.requires.d_run c.requires.b_run c.record_at-dr.ensures c.record_at-br.ensures c.derived_range-p.ensures c.base_range-q.ensures c.items-ds.ensures c.items-bs.ensures c.kind_of.ensures c.kind_of-2.ensures c.decreases) (search) (search))
 
 pub by_kinds-returns-in-16 : goal.by_kinds-returns-in-16
-by_kinds-returns-in-16 t c = c.group_wildcard-v-in-16.ensures ∙ sym (group_wildcard_arm (both c.args.leaves.now c.args.tables.now c.args.n c.requires.run c.requires.run_2 c.record_at-dr.ensures c.record_at-br.ensures c.derived_range-p.ensures c.base_range-q.ensures c.items-ds.ensures c.items-bs.ensures c.kind_of.ensures c.kind_of-2.ensures c.decreases) 3 (omega arith) (search))
+by_kinds-returns-in-16 t c = c.group_wildcard-v-in-16.ensures ∙ sym (group_wildcard_arm (both c.args.paper.now c.requires.d_run c.requires.b_run c.record_at-dr.ensures c.record_at-br.ensures c.derived_range-p.ensures c.base_range-q.ensures c.items-ds.ensures c.items-bs.ensures c.kind_of.ensures c.kind_of-2.ensures c.decreases) 3 (omega arith) (search))
 
 pub by_kinds-returns-in-18 : goal.by_kinds-returns-in-18
-by_kinds-returns-in-18 t c = c.same_kind-in-18.ensures ∙ sym (choices_arm (both c.args.leaves.now c.args.tables.now c.args.n c.requires.run c.requires.run_2 c.record_at-dr.ensures c.record_at-br.ensures c.derived_range-p.ensures c.base_range-q.ensures c.items-ds.ensures c.items-bs.ensures c.kind_of.ensures c.kind_of-2.ensures c.decreases) (search))
+by_kinds-returns-in-18 t c = c.same_kind-in-18.ensures ∙ sym (choices_arm (both c.args.paper.now c.requires.d_run c.requires.b_run c.record_at-dr.ensures c.record_at-br.ensures c.derived_range-p.ensures c.base_range-q.ensures c.items-ds.ensures c.items-bs.ensures c.kind_of.ensures c.kind_of-2.ensures c.decreases) (search))
 
 pub by_kinds-returns-in-20 : goal.by_kinds-returns-in-20
 unfolding rule
-by_kinds-returns-in-20 t c = sym (arm (both c.args.leaves.now c.args.tables.now c.args.n c.requires.run c.requires.run_2 c.record_at-dr.ensures c.record_at-br.ensures c.derived_range-p.ensures c.base_range-q.ensures c.items-ds.ensures c.items-bs.ensures c.kind_of.ensures c.kind_of-2.ensures c.decreases) 4 0 (omega arith) (search))
+by_kinds-returns-in-20 t c = sym (arm (both c.args.paper.now c.requires.d_run c.requires.b_run c.record_at-dr.ensures c.record_at-br.ensures c.derived_range-p.ensures c.base_range-q.ensures c.items-ds.ensures c.items-bs.ensures c.kind_of.ensures c.kind_of-2.ensures c.decreases) 4 0 (omega arith) (search))
 
 pub by_kinds-returns-in-21 : goal.by_kinds-returns-in-21
-by_kinds-returns-in-21 t c = c.group_wildcard-v-in-21.ensures ∙ sym (group_wildcard_arm (both c.args.leaves.now c.args.tables.now c.args.n c.requires.run c.requires.run_2 c.record_at-dr.ensures c.record_at-br.ensures c.derived_range-p.ensures c.base_range-q.ensures c.items-ds.ensures c.items-bs.ensures c.kind_of.ensures c.kind_of-2.ensures c.decreases) 4 (omega arith) (search))
+by_kinds-returns-in-21 t c = c.group_wildcard-v-in-21.ensures ∙ sym (group_wildcard_arm (both c.args.paper.now c.requires.d_run c.requires.b_run c.record_at-dr.ensures c.record_at-br.ensures c.derived_range-p.ensures c.base_range-q.ensures c.items-ds.ensures c.items-bs.ensures c.kind_of.ensures c.kind_of-2.ensures c.decreases) 4 (omega arith) (search))
 
 pub by_kinds-returns-in-24 : goal.by_kinds-returns-in-24
 unfolding rule
-by_kinds-returns-in-24 t c = c.group_all-v-in-24.ensures ∙ sym (arm (both c.args.leaves.now c.args.tables.now c.args.n c.requires.run c.requires.run_2 c.record_at-dr.ensures c.record_at-br.ensures c.derived_range-p.ensures c.base_range-q.ensures c.items-ds.ensures c.items-bs.ensures c.kind_of.ensures c.kind_of-2.ensures c.decreases) 4 4 (omega arith) (search))
+by_kinds-returns-in-24 t c = c.group_all-v-in-24.ensures ∙ sym (arm (both c.args.paper.now c.requires.d_run c.requires.b_run c.record_at-dr.ensures c.record_at-br.ensures c.derived_range-p.ensures c.base_range-q.ensures c.items-ds.ensures c.items-bs.ensures c.kind_of.ensures c.kind_of-2.ensures c.decreases) 4 4 (omega arith) (search))
 
 pub by_kinds-returns-in_default : goal.by_kinds-returns-in_default
-by_kinds-returns-in_default t c = sym (other_arm (both c.args.leaves.now c.args.tables.now c.args.n c.requires.run c.requires.run_2 c.record_at-dr.ensures c.record_at-br.ensures c.derived_range-p.ensures c.base_range-q.ensures c.items-ds.ensures c.items-bs.ensures c.kind_of.ensures c.kind_of-2.ensures c.decreases) (search))
+by_kinds-returns-in_default t c = sym (other_arm (both c.args.paper.now c.requires.d_run c.requires.b_run c.record_at-dr.ensures c.record_at-br.ensures c.derived_range-p.ensures c.base_range-q.ensures c.items-ds.ensures c.items-bs.ensures c.kind_of.ensures c.kind_of-2.ensures c.decreases) (search))
 
 -- `choice_marks` meets its contract: three readings of the alternatives in one pass.
 
@@ -179,7 +179,7 @@ pub marks::choice_marks-element_marks-item-requires : goal.marks::choice_marks-e
 marks::choice_marks-element_marks-item-requires t c = (omega arith, search first_tree)
 
 pub marks::choice_marks-walk_on-first-requires : goal.marks::choice_marks-walk_on-first-requires
-marks::choice_marks-walk_on-first-requires t c = record { run = search first_tree; run_2 = search later_trees }
+marks::choice_marks-walk_on-first-requires t c = record { b_run = search first_tree; rest_run = search later_trees }
 
 pub marks::choice_marks-returns-in-Ok-read : goal.marks::choice_marks-returns-in-Ok-read
 marks::choice_marks-returns-in-Ok-read t c = readings_pass (readings_next c.loop-left.invariant (search) c.next-next.ensures c.element_marks-item.result c.element_marks-item.ensures {first' = c.walk_on-first.result} {once' = c.combine_readings-once.result} {own' = c.combine_readings-own.result} c.walk_on-first.ensures c.combine_readings-once.ensures c.combine_readings-own.ensures)
@@ -214,27 +214,27 @@ pub marks::element_marks-record_at-br-requires : goal.marks::element_marks-recor
 marks::element_marks-record_at-br-requires t c = search (some_bytes {n = 0})
 
 pub marks::element_marks-sequence_marks-requires : goal.marks::element_marks-sequence_marks-requires
-marks::element_marks-sequence_marks-requires t c = let s = (against c.args.leaves.now c.args.tables.now c.args.n c.requires.d_value c.requires.run_2 c.record_at-br.ensures c.base_range-q.ensures c.items-bs.ensures c.kind_of.ensures) in
-    (omega (arith, c.decreases, side_shorter s.base), (c.requires.run, (c.requires.d_value, side_items s.base)))
+marks::element_marks-sequence_marks-requires t c = let s = (against c.args.paper.now c.requires.d_element c.requires.b_run c.record_at-br.ensures c.base_range-q.ensures c.items-bs.ensures c.kind_of.ensures) in
+    (omega (arith, c.decreases, side_shorter s.base), (c.requires.d_run, (c.requires.d_element, side_items s.base)))
 
 pub marks::element_marks-choice_marks-requires : goal.marks::element_marks-choice_marks-requires
-marks::element_marks-choice_marks-requires t c = let s = (against c.args.leaves.now c.args.tables.now c.args.n c.requires.d_value c.requires.run_2 c.record_at-br.ensures c.base_range-q.ensures c.items-bs.ensures c.kind_of.ensures) in
-    (omega (arith, c.decreases, side_shorter s.base), (c.requires.run, (c.requires.d_value, side_items s.base)))
+marks::element_marks-choice_marks-requires t c = let s = (against c.args.paper.now c.requires.d_element c.requires.b_run c.record_at-br.ensures c.base_range-q.ensures c.items-bs.ensures c.kind_of.ensures) in
+    (omega (arith, c.decreases, side_shorter s.base), (c.requires.d_run, (c.requires.d_element, side_items s.base)))
 
 pub marks::element_marks-returns-in-0 : goal.marks::element_marks-returns-in-0
-marks::element_marks-returns-in-0 t c = element_both (against c.args.leaves.now c.args.tables.now c.args.n c.requires.d_value c.requires.run_2 c.record_at-br.ensures c.base_range-q.ensures c.items-bs.ensures c.kind_of.ensures) c.with_element.result (search) c.with_element.ensures
+marks::element_marks-returns-in-0 t c = element_both (against c.args.paper.now c.requires.d_element c.requires.b_run c.record_at-br.ensures c.base_range-q.ensures c.items-bs.ensures c.kind_of.ensures) c.with_element.result (search) c.with_element.ensures
 
 pub marks::element_marks-returns-in-1 : goal.marks::element_marks-returns-in-1
-marks::element_marks-returns-in-1 t c = wildcard_both (against c.args.leaves.now c.args.tables.now c.args.n c.requires.d_value c.requires.run_2 c.record_at-br.ensures c.base_range-q.ensures c.items-bs.ensures c.kind_of.ensures) c.with_wildcard.result (search) c.with_wildcard.ensures
+marks::element_marks-returns-in-1 t c = wildcard_both (against c.args.paper.now c.requires.d_element c.requires.b_run c.record_at-br.ensures c.base_range-q.ensures c.items-bs.ensures c.kind_of.ensures) c.with_wildcard.result (search) c.with_wildcard.ensures
 
 pub marks::element_marks-returns-in-2 : goal.marks::element_marks-returns-in-2
-marks::element_marks-returns-in-2 t c = sequence_both (against c.args.leaves.now c.args.tables.now c.args.n c.requires.d_value c.requires.run_2 c.record_at-br.ensures c.base_range-q.ensures c.items-bs.ensures c.kind_of.ensures) c.sequence_marks.result (search) c.sequence_marks.ensures
+marks::element_marks-returns-in-2 t c = sequence_both (against c.args.paper.now c.requires.d_element c.requires.b_run c.record_at-br.ensures c.base_range-q.ensures c.items-bs.ensures c.kind_of.ensures) c.sequence_marks.result (search) c.sequence_marks.ensures
 
 pub marks::element_marks-returns-in-3 : goal.marks::element_marks-returns-in-3
-marks::element_marks-returns-in-3 t c = choice_both (against c.args.leaves.now c.args.tables.now c.args.n c.requires.d_value c.requires.run_2 c.record_at-br.ensures c.base_range-q.ensures c.items-bs.ensures c.kind_of.ensures) c.choice_marks.result (search) c.choice_marks.ensures
+marks::element_marks-returns-in-3 t c = choice_both (against c.args.paper.now c.requires.d_element c.requires.b_run c.record_at-br.ensures c.base_range-q.ensures c.items-bs.ensures c.kind_of.ensures) c.choice_marks.result (search) c.choice_marks.ensures
 
 pub marks::element_marks-returns-in_default : goal.marks::element_marks-returns-in_default
-marks::element_marks-returns-in_default t c = all_both (against c.args.leaves.now c.args.tables.now c.args.n c.requires.d_value c.requires.run_2 c.record_at-br.ensures c.base_range-q.ensures c.items-bs.ensures c.kind_of.ensures) (record { once = Unknown; own = Unknown }) (omega arith) (refl, refl)
+marks::element_marks-returns-in_default t c = all_both (against c.args.paper.now c.requires.d_element c.requires.b_run c.record_at-br.ensures c.base_range-q.ensures c.items-bs.ensures c.kind_of.ensures) (record { once = Unknown; own = Unknown }) (omega arith) (refl, refl)
 
 -- `element_sequence` meets its contract: an element that counts once has one mark, any other its own of two.
 
@@ -380,10 +380,10 @@ pub marks::sequence_marks-element_marks-item-requires : goal.marks::sequence_mar
 marks::sequence_marks-element_marks-item-requires t c = (omega arith, search first_tree)
 
 pub marks::sequence_marks-walk_on-once-requires : goal.marks::sequence_marks-walk_on-once-requires
-marks::sequence_marks-walk_on-once-requires t c = record { run = search first_tree; run_2 = search later_trees }
+marks::sequence_marks-walk_on-once-requires t c = record { b_run = search first_tree; rest_run = search later_trees }
 
 pub marks::sequence_marks-walk_on-own-requires : goal.marks::sequence_marks-walk_on-own-requires
-marks::sequence_marks-walk_on-own-requires t c = record { run = search first_tree; run_2 = search later_trees }
+marks::sequence_marks-walk_on-own-requires t c = record { b_run = search first_tree; rest_run = search later_trees }
 
 pub marks::sequence_marks-returns-then-settled : goal.marks::sequence_marks-returns-then-settled
 marks::sequence_marks-returns-then-settled t c = walks_settled (walks_next c.loop-left.invariant (search) c.next-next.ensures c.element_marks-item.result c.element_marks-item.ensures {once' = c.walk_on-once.result} {own' = c.walk_on-own.result} c.walk_on-once.ensures c.walk_on-own.ensures)

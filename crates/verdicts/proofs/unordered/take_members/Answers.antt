@@ -27,8 +27,8 @@ loop-low-preserved c = past_one c.loop-low.invariant (search) (omega arith) (sea
 pub record_at-head-requires : goal.record_at-head-requires
 record_at-head-requires c = search whole_record
 
-pub member_restrict-v-requires-clause-row : goal.member_restrict-v-requires-clause-row
-member_restrict-v-requires-clause-row c = c.loop-low.invariant.base.left
+pub member_restrict-v-requires-clause-bs_row : goal.member_restrict-v-requires-clause-bs_row
+member_restrict-v-requires-clause-bs_row c = c.loop-low.invariant.base.left
 
 pub shape_of-matched-in-Violation : goal.shape_of-matched-in-Violation
 shape_of-matched-in-Violation c = search lent_back
@@ -46,7 +46,7 @@ pub slice_bounds-rest-start : goal.slice_bounds-rest-start
 slice_bounds-rest-start c = search run_fits
 
 pub loop-i-preserved : goal.loop-i-preserved
-loop-i-preserved c = let room = c.requires.bn_in_bounds in
+loop-i-preserved c = let room = c.requires.bs_flagged in
     let going = c.loop-i.invariant in
     let past = c.loop-low.invariant in
     let r = c.record_at-head.ensures in

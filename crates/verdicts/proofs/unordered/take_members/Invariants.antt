@@ -1,6 +1,6 @@
 -- `unordered::take_members` meets its contract. Assumes nothing.
 use Prim.Native.Nat.{◌-◌}
-use Rattle.verdicts.specs.Paper.{leaves_of, tables_of}
+use Rattle.verdicts.specs.Paper.{paper_leaves, paper_tables}
 use Rattle.verdicts.proofs.Members.{Past, Going}
 use Rattle.verdicts.proofs.unordered.take_members.Given as goal
 
@@ -11,7 +11,7 @@ abbrev pub decreases-loop-low : goal.decreases-loop-low
 decreases-loop-low l = l.bn - l.low
 
 abbrev pub invariant-loop-i : goal.invariant-loop-i
-invariant-loop-i l = Going (leaves_of l.leaves) (tables_of l.n l.tables) l.ds l.dn l.bs l.bn l.initial.matched l.rest l.i l.seen l.free l.low l.matched
+invariant-loop-i l = Going (paper_leaves l.paper) (paper_tables l.paper) l.ds l.dn l.bs l.bn l.initial.matched l.rest l.i l.seen l.free l.low l.matched
 
 abbrev pub decreases-loop-i : goal.decreases-loop-i
 decreases-loop-i l = l.dn - l.i

@@ -1,9 +1,9 @@
--- `leaves::wildcard_wildcard` meets its contract. Assumes nothing.
+-- `leaves::Paper::wildcard_wildcard` meets its contract. Assumes nothing.
 use mathlib.Core.Path.{◌≡◌}
 use Prim.Native.Nat.{ℕ, ◌≤◌, ◌<◌}
 use native.Mathlib.Omega.{arith}
 use Rattle.verdicts.proofs.Marks.{holds, breaks, at_least, below}
-use Rattle.verdicts.proofs.leaves.wildcard_wildcard.Goals as goal
+use Rattle.verdicts.proofs.leaves.Paper.wildcard_wildcard.Goals as goal
 
 module _ {a b m n : ℕ} (e : a ≡ m) (f : b ≡ n) where
   less : a < b → m < n

@@ -1,6 +1,6 @@
--- `leaves::element_restrict` meets its contract. Assumes nothing.
+-- `leaves::Paper::element_restrict` meets its contract. Assumes nothing.
 use Rattle.verdicts.proofs.Marks.{ended, after_pass, at_least, below}
-use Rattle.verdicts.proofs.leaves.element_restrict.Goals as goal
+use Rattle.verdicts.proofs.leaves.Paper.element_restrict.Goals as goal
 
 pub returns-in_default : goal.returns-in_default
 returns-in_default c = search ended
