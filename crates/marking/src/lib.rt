@@ -4,12 +4,9 @@
 mod display;
 
 ghost use Rattle.std.specs.Prelude.{◌≡◌, ◌*◌, ◌≤◌};
-ghost use Rattle.particle.specs.Occurs.{is_zero};
-ghost use Rattle.particle.specs.Tree.{pair_of, tree};
-ghost use Rattle.particle.specs.Rows.{Row};
-ghost use Rattle.particle.specs.Runs.{Run};
+ghost use Rattle.particle.specs.MeasuredTrees.{tree_of};
 ghost use Rattle.rules.specs.Mark.{early_pass, mark_tidied};
-ghost use Rattle.verdicts.specs.Paper.{leaves_of, tables_of};
+ghost use Rattle.verdicts.specs.Paper.{paper_leaves, paper_tables};
 ghost use Rattle.verdicts.specs.Reasons.{mark_of};
 ghost use Rattle.entries.specs.Answer.{gives};
 ghost use Rattle.sheet.specs.Refused.{sheet_refusal};
@@ -18,7 +15,7 @@ ghost use Rattle.marking.specs.Buffers.{Buffer, BothFit};
 ghost use Rattle.marking.specs.Answer.{mark_of_sheet, mark_sheet, mark_meaning, SetInRange};
 
 use intake::Refusal;
-use particle::Subtree;
+use particle::MeasuredTree;
 use verdicts::{Paper, Reason, Verdict};
 
 // The length of the longest tree in bytes.
@@ -50,34 +47,22 @@ impl From<Verdict> for MarkAnswer {
     }
 }
 
-// Whether the root of t has maximum 0.
-fn never(t: &[u8]) -> bool
-    requires { Row 1 t.now }
-    ensures { result ≡ is_zero (pair_of (tree t.now).head).max }
-{
-    particle::never(particle::record_at(t))
-}
-
 // The early pass: the derived root has maximum 0, and the base root has maximum 0 or is emptiable.
-fn early_pass(d: &[u8], b: &[u8]) -> bool
-    requires d_row { Row 1 d.now }
-    requires b_row { Row 1 b.now }
-    ensures { result ≡ early_pass (tree d.now) (tree b.now) }
+fn early_pass(d: MeasuredTree, b: MeasuredTree) -> bool
+    ensures { result ≡ early_pass (tree_of d.entry) (tree_of b.entry) }
 {
-    never(d) && (never(b) || particle::emptiable(Subtree { bytes: b }))
+    particle::never(d.record()) && (particle::never(b.record()) || b.emptiable())
 }
 
-// The mark of two tidied trees, by the leaves and the tables of a sheet with n leaves.
+// The mark of two tidied trees, by a paper's leaves and tables.
 #[tactic(auto, unfolding(rules::specs::Mark::mark_tidied))]
-fn mark_tidied(d: &[u8], b: &[u8], leaves: &[u8], tables: &[u8], n: u8) -> Verdict
-    requires d_run { Run 1 d.now }
-    requires b_run { Run 1 b.now }
-    ensures { mark_of result ≡ mark_tidied (leaves_of leaves.now) (tables_of n tables.now) (tree d.now) (tree b.now) }
+fn mark_tidied(d: MeasuredTree, b: MeasuredTree, paper: &Paper) -> Verdict
+    ensures { mark_of result ≡ mark_tidied (paper_leaves paper.now) (paper_tables paper.now) (tree_of d.entry) (tree_of b.entry) }
 {
     if early_pass(d, b) {
         return Verdict::Ok;
     }
-    restriction::restrict(d, false, b, false, &Paper { leaves, tables, n })
+    restriction::restrict(d, false, b, false, paper)
 }
 
 // The mark of an accepted sheet: both trees are tidied and measured first, in the buffers.
@@ -92,13 +77,16 @@ fn mark_in(s: &[u8], derived: &mut [u8], base: &mut [u8]) -> Verdict
     let b = tidying::normalize_in(sheet::base(s), base);
     particle::measure(&mut derived[..d]);
     particle::measure(&mut base[..b]);
-    mark_tidied(
-        &derived[..d],
-        &base[..b],
-        sheet::leaves(s),
-        sheet::tables(s),
-        sheet::leaf_count(s),
-    )
+    let derived = MeasuredTree {
+        bytes: &derived[..d],
+    };
+    let base = MeasuredTree { bytes: &base[..b] };
+    let paper = Paper {
+        leaves: sheet::leaves(s),
+        tables: sheet::tables(s),
+        n: sheet::leaf_count(s),
+    };
+    mark_tidied(derived, base, &paper)
 }
 
 // The same, with buffers of its own, of N bytes.

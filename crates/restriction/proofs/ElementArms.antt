@@ -1,8 +1,10 @@
 -- The arms of `element_marks`: both marks of an element against a base tree, by the base's kind. Each level's two marks are made of the next level's two. Assumes nothing.
 use mathlib.Core.Bool.{true, false}
 use mathlib.Core.List.{List}
-use mathlib.Core.Path.{◌≡◌, refl, sym, ◌∙◌}
-use Prim.Native.Nat.{ℕ, ◌≤◌}
+use mathlib.Core.Path.{◌≡◌, refl, ap, sym, ◌∙◌}
+use Prim.Native.Nat.{ℕ, ◌≤◌, ◌<◌}
+use native.Mathlib.Omega.{arith}
+use lib.ListN.{length}
 use Rattle.particle.specs.declared.Occurs.{Occurs}
 use Rattle.particle.specs.declared.Record.{Record}
 use Rattle.particle.specs.Occurs.{range_ok, exactly}
@@ -11,6 +13,7 @@ use Rattle.particle.specs.Tree.{element, sequence, choice, Items, none, item, he
 use Rattle.particle.specs.Rows.{row, items_part}
 use Rattle.particle.specs.Runs.{Run}
 use Rattle.particle.specs.Encode.{kind_number}
+use Rattle.particle.proofs.Laws.{items_shorter}
 use Rattle.rules.specs.Verdicts.{Mark, undecided, Leaves, Tables}
 use Rattle.rules.specs.Combine.{◌or_fails◌, ◌and_then◌}
 use Rattle.rules.specs.Element.{element_restrict}
@@ -25,6 +28,7 @@ use Rattle.restriction.specs.Views.{as_once, any_head, paper_judge}
 use Rattle.restriction.specs.Marks.{BothMarks, sequence_mark, sequence_once, choice_mark, choice_once}
 use Rattle.restriction.proofs.Heads.{any_again}
 use Rattle.restriction.proofs.Readings.{once_sequence, once_choice}
+use Rattle.restriction.proofs.Parts.{weight}
 use Rattle.restriction.proofs.Arms.{Side, side_tree, read_side}
 
 -- The two marks at a base sequence and at a base choice of pair q, of what marks the items b: counting once, and with the pair p.
@@ -50,17 +54,15 @@ module _ (L : Leaves) (T : Tables) (l : ℕ) (k : Items) (q : Occurs) (b : Items
       × (J (element l p ⟦ k ⟧) (choice q ⟦ b ⟧) ≡ choice_mark J p q (element l (exactly 1) ⟦ k ⟧) (element l p ⟦ k ⟧) b)
   choice_level p = (own_choice (exactly 1) ∙ once_choice J q (element l (exactly 1) ⟦ k ⟧) b, own_choice p)
 
--- an element of pair p at the start of d, the sheet, and what has been read of b
-pub record Against (paper : Paper) (d : List ℕ) (leaf : ℕ) (p : Occurs) (b : List ℕ) (br : Record) (q : Occurs) (bs : List ℕ) (bk : ℕ) : Type 0 where
-  pub derived : (tree d).head ≡ element leaf p
-  pub base : Side (any_head false) b br q bs bk
+-- the call for the items of b has less weight
+pub below_items : (d : List ℕ) {b bs : List ℕ} {m : ℕ} → Run 1 b → bs ≡ items_part b → weight 1 d b ≡ m → weight 4 d bs < m
+below_items d w e m = omega (arith, m, ap length e, items_shorter w.row)
 
-pub against : (paper : Paper) {d : List ℕ} {leaf : ℕ} {p : Occurs} {b : List ℕ} {br : Record} {q : Occurs} {bs : List ℕ} {bk : ℕ}
-    → (tree d).head ≡ element leaf p → Run 1 b → br ≡ record_at b → q ≡ pair_of (any_head false (head_of br)) → bs ≡ items_part b → (bk ≡ kind_number (head_of br)) × (bk ≤ 4)
-    → Against paper d leaf p b br q bs bk
-against paper h w e o b k = record { derived = h; base = read_side w e o b k }
+-- the items of the tree that b starts with
+abbrev items_at : List ℕ → Items
+items_at b = row (record_at b).count (items_part b)
 
-module _ {paper : Paper} {d : List ℕ} {leaf : ℕ} {p : Occurs} {b : List ℕ} {br : Record} {q : Occurs} {bs : List ℕ} {bk : ℕ} (S : Against paper d leaf p b br q bs bk) (marks : Marks) where
+module _ (paper : Paper) where
   abbrev Jd : Judge
   Jd = paper_judge paper
 
@@ -70,42 +72,43 @@ module _ {paper : Paper} {d : List ℕ} {leaf : ℕ} {p : Occurs} {b : List ℕ}
   abbrev L : Leaves
   L = paper_leaves paper
 
-  abbrev bi : Items
-  bi = row br.count bs
+  -- The marks of an element of pair p at the start of d, against the tree at the start of b: br is its record, q its pair, bk its kind number.
+  module _ (d : List ℕ) (marks : Marks) {leaf : ℕ} {p : Occurs} {b : List ℕ} {br : Record} {q : Occurs} {bk : ℕ}
+      (h : (tree d).head ≡ element leaf p) (w : Run 1 b) (e : br ≡ record_at b) (o : q ≡ pair_of (any_head false (head_of br))) (kind : (bk ≡ kind_number (head_of br)) × (bk ≤ 4)) where
+    base : Side (any_head false) b br q (items_part b) (record_at b).count bk
+    base = read_side w e o refl refl kind
 
-  abbrev k : Items
-  k = (tree d).items
+    base_tree_lem : tree b ≡ head_from bk br.leaf q ⟦ items_at b ⟧
+    base_tree_lem = side_tree base ∙ rw (any_again br.leaf (range_of br) false br.kind, ← kind.0, ← o)
 
-  base_tree_lem : tree b ≡ head_from bk br.leaf q ⟦ bi ⟧
-  base_tree_lem = side_tree S.base ∙ rw (any_again br.leaf (range_of br) false br.kind, ← S.base.kind, ← S.base.pair)
+    -- both marks, by the base's kind
+    by_kind : (i : ℕ) {once own : Mark} → bk ≡ i → rule L T Jd (element leaf (exactly 1)) (tree d).items (head_from i br.leaf q) (items_at b) ≡ once → rule L T Jd (element leaf p) (tree d).items (head_from i br.leaf q) (items_at b) ≡ own
+        → BothMarks marks once own → BothMarks marks (Jd (as_once true (tree d)) (tree b)) (Jd (tree d) (tree b))
+    by_kind i z f g a =
+        let says : (x : Occurs) → Jd (element leaf x ⟦ (tree d).items ⟧) (tree b) ≡ rule L T Jd (element leaf x) (tree d).items (head_from i br.leaf q) (items_at b) = λ x. rw (base_tree_lem, z) (mark_unfolds L T (element leaf x) (tree d).items (head_from i br.leaf q) (items_at b)) in
+        (a.0 ∙ sym (rw h (says (exactly 1) ∙ f)), a.1 ∙ sym (rw h (says p ∙ g)))
 
-  -- both marks, by the base's kind
-  by_kind : (i : ℕ) {once own : Mark} → bk ≡ i → rule L T Jd (element leaf (exactly 1)) k (head_from i br.leaf q) bi ≡ once → rule L T Jd (element leaf p) k (head_from i br.leaf q) bi ≡ own
-      → BothMarks marks once own → BothMarks marks (Jd (as_once true (tree d)) (tree b)) (Jd (tree d) (tree b))
-  by_kind i e f g a =
-      let says : (x : Occurs) → Jd (element leaf x ⟦ k ⟧) (tree b) ≡ rule L T Jd (element leaf x) k (head_from i br.leaf q) bi = λ x. rw (base_tree_lem, e) (mark_unfolds L T (element leaf x) k (head_from i br.leaf q) bi) in
-      (a.0 ∙ sym (rw S.derived (says (exactly 1) ∙ f)), a.1 ∙ sym (rw S.derived (says p ∙ g)))
+    pub element_both : bk ≡ 0 → BothMarks marks (element_restrict T leaf (exactly 1) br.leaf q) (element_restrict T leaf p br.leaf q) → BothMarks marks (Jd (as_once true (tree d)) (tree b)) (Jd (tree d) (tree b))
+    unfolding rule
+    element_both z = by_kind 0 z refl refl
 
-  pub element_both : bk ≡ 0 → BothMarks marks (element_restrict T leaf (exactly 1) br.leaf q) (element_restrict T leaf p br.leaf q) → BothMarks marks (Jd (as_once true (tree d)) (tree b)) (Jd (tree d) (tree b))
-  unfolding rule
-  element_both e = by_kind 0 e refl refl
+    pub wildcard_both : bk ≡ 1 → BothMarks marks (range_ok (exactly 1) q or_fails 101 and_then T.second leaf br.leaf) (range_ok p q or_fails 101 and_then T.second leaf br.leaf) → BothMarks marks (Jd (as_once true (tree d)) (tree b)) (Jd (tree d) (tree b))
+    unfolding rule
+    wildcard_both z = by_kind 1 z refl refl
 
-  pub wildcard_both : bk ≡ 1 → BothMarks marks (range_ok (exactly 1) q or_fails 101 and_then T.second leaf br.leaf) (range_ok p q or_fails 101 and_then T.second leaf br.leaf) → BothMarks marks (Jd (as_once true (tree d)) (tree b)) (Jd (tree d) (tree b))
-  unfolding rule
-  wildcard_both e = by_kind 1 e refl refl
+    module _ {bs : List ℕ} {bn : ℕ} (below : bs ≡ items_part b) (many : bn ≡ (record_at b).count) where
+      pub sequence_both : bk ≡ 2 → BothMarks marks (sequence_once Jd q (as_once true (tree d)) (row bn bs)) (sequence_mark Jd p q (as_once true (tree d)) (tree d) (row bn bs)) → BothMarks marks (Jd (as_once true (tree d)) (tree b)) (Jd (tree d) (tree b))
+      sequence_both z a =
+          let level = sequence_level L T leaf (tree d).items q (row bn bs) p in
+          let at : tree b ≡ sequence q ⟦ row bn bs ⟧ = base_tree_lem ∙ rw (z, below, many) in
+          (a.0 ∙ sym (rw (at, h) level.0), a.1 ∙ sym (rw (at, h) level.1))
 
-  pub sequence_both : bk ≡ 2 → BothMarks marks (sequence_once Jd q (as_once true (tree d)) bi) (sequence_mark Jd p q (as_once true (tree d)) (tree d) bi) → BothMarks marks (Jd (as_once true (tree d)) (tree b)) (Jd (tree d) (tree b))
-  sequence_both e a =
-      let level = sequence_level L T leaf k q bi p in
-      let at : tree b ≡ sequence q ⟦ bi ⟧ = base_tree_lem ∙ rw e in
-      (a.0 ∙ sym (rw (at, S.derived) level.0), a.1 ∙ sym (rw (at, S.derived) level.1))
+      pub choice_both : bk ≡ 3 → BothMarks marks (choice_once Jd q (as_once true (tree d)) (row bn bs)) (choice_mark Jd p q (as_once true (tree d)) (tree d) (row bn bs)) → BothMarks marks (Jd (as_once true (tree d)) (tree b)) (Jd (tree d) (tree b))
+      choice_both z a =
+          let level = choice_level L T leaf (tree d).items q (row bn bs) p in
+          let at : tree b ≡ choice q ⟦ row bn bs ⟧ = base_tree_lem ∙ rw (z, below, many) in
+          (a.0 ∙ sym (rw (at, h) level.0), a.1 ∙ sym (rw (at, h) level.1))
 
-  pub choice_both : bk ≡ 3 → BothMarks marks (choice_once Jd q (as_once true (tree d)) bi) (choice_mark Jd p q (as_once true (tree d)) (tree d) bi) → BothMarks marks (Jd (as_once true (tree d)) (tree b)) (Jd (tree d) (tree b))
-  choice_both e a =
-      let level = choice_level L T leaf k q bi p in
-      let at : tree b ≡ choice q ⟦ bi ⟧ = base_tree_lem ∙ rw e in
-      (a.0 ∙ sym (rw (at, S.derived) level.0), a.1 ∙ sym (rw (at, S.derived) level.1))
-
-  pub all_both : bk ≡ 4 → BothMarks marks undecided undecided → BothMarks marks (Jd (as_once true (tree d)) (tree b)) (Jd (tree d) (tree b))
-  unfolding rule
-  all_both e = by_kind 4 e refl refl
+    pub all_both : bk ≡ 4 → BothMarks marks undecided undecided → BothMarks marks (Jd (as_once true (tree d)) (tree b)) (Jd (tree d) (tree b))
+    unfolding rule
+    all_both z = by_kind 4 z refl refl

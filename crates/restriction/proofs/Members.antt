@@ -2,9 +2,10 @@
 use mathlib.Core.Bool.{Bool, true, false}
 use mathlib.Core.List.{List}
 use mathlib.Core.Path.{◌≡◌, refl, ap, sym, ◌∙◌}
-use Prim.Native.Nat.{ℕ, ◌-◌, ◌≤◌, ◌<◌}
+use Prim.Native.Nat.{ℕ}
+use native.Mathlib.Nat.{le_refl}
 use Rattle.particle.specs.Tree.{Items, Particle, tree}
-use Rattle.particle.specs.Rows.{row, later_part}
+use Rattle.particle.specs.Rows.{row}
 use Rattle.particle.specs.Runs.{Run}
 use Rattle.rules.specs.Verdicts.{Mark, passes, undecided, fails}
 use Rattle.rules.specs.Combine.{◌and_then◌, ◌or_else◌}
@@ -14,7 +15,7 @@ use Rattle.verdicts.specs.declared.Verdict.{Verdict}
 use Rattle.verdicts.specs.declared.Verdict.TheVariants.{Ok, Unknown, Violation}
 use Rattle.verdicts.specs.Reasons.{reason_number, mark_of, definite_of}
 use Rattle.verdicts.proofs.Marks.{now_seen}
-use Rattle.restriction.proofs.Parts.{Part, part_start, part_next, row_none, row_cons}
+use Rattle.restriction.proofs.Parts.{Part, Step, part_start, part_next, row_none, row_cons}
 
 -- Each member, f marking one. t is the part at which the next member starts, i members before the end.
 pub record Members (f : Particle → Mark) (dn : ℕ) (ds : List ℕ) (seen : Bool) (t : List ℕ) (i : ℕ) : Type 0 where
@@ -22,25 +23,25 @@ pub record Members (f : Particle → Mark) (dn : ℕ) (ds : List ℕ) (seen : Bo
   pub rest_says : each_member f (row dn ds) ≡ definite_of seen (each_member f (row i t))
 
 module _ {f : Particle → Mark} {dn : ℕ} {ds : List ℕ} where
-  pub members_start : Run dn ds → Members f dn ds false ds dn
-  members_start w = record { part = part_start w; rest_says = refl }
+  pub members_start : {t : List ℕ} {i : ℕ} → Run i t → t ≡ ds → i ≡ dn → Members f dn ds false t i
+  members_start w e o = record { part = record { trees = w; within = rw e (le_refl _) }; rest_says = rw (e, o) }
 
   module _ {seen : Bool} {t : List ℕ} {i : ℕ} (w : Members f dn ds seen t i) where
-    pub members_end : {m : Mark} → i ≤ 0 → m ≡ definite_of seen passes → m ≡ each_member f (row dn ds)
+    pub members_end : {m : Mark} → i ≡ 0 → m ≡ definite_of seen passes → m ≡ each_member f (row dn ds)
     unfolding each_member
     members_end z e = e ∙ sym (w.rest_says ∙ ap (λ (x : Items). definite_of seen (each_member f x)) (row_none i t z))
 
     -- a turn: v is what f says of the member, s the part after it
-    module _ (some : 0 < i) {s : List ℕ} (e : s ≡ later_part t) {v : Verdict} (says : mark_of v ≡ f (tree t)) where
-      member_then_rest : (w' : Verdict) → v ≡ w' → each_member f (row dn ds) ≡ definite_of seen (mark_of w' and_then each_member f (row (i - 1) s))
+    module _ {d s : List ℕ} {k : ℕ} (g : Step i t d s k) {v : Verdict} (says : mark_of v ≡ f (tree d)) where
+      member_then_rest : (w' : Verdict) → v ≡ w' → each_member f (row dn ds) ≡ definite_of seen (mark_of w' and_then each_member f (row k s))
       unfolding each_member
-      member_then_rest w' q = w.rest_says ∙ ap (λ (x : Items). definite_of seen (each_member f x)) (row_cons w.part.trees some e) ∙ rw (← says, q)
+      member_then_rest w' q = w.rest_says ∙ ap (λ (x : Items). definite_of seen (each_member f x)) (row_cons g w.part.trees) ∙ rw (← says, q)
 
-      pub member_passes : v ≡ Ok → Members f dn ds seen s (i - 1)
-      member_passes q = record { part = part_next w.part.trees some e w.part.within; rest_says = member_then_rest Ok q }
+      pub member_passes : v ≡ Ok → Members f dn ds seen s k
+      member_passes q = record { part = part_next g w.part; rest_says = member_then_rest Ok q }
 
-      pub member_undecided : v ≡ Unknown → Members f dn ds true s (i - 1)
-      member_undecided q = record { part = part_next w.part.trees some e w.part.within; rest_says = member_then_rest Unknown q ∙ now_seen seen }
+      pub member_undecided : v ≡ Unknown → Members f dn ds true s k
+      member_undecided q = record { part = part_next g w.part; rest_says = member_then_rest Unknown q ∙ now_seen seen }
 
       pub member_fails : {r : Reason} {m : Mark} → v ≡ Violation r → m ≡ definite_of seen (fails (reason_number r)) → m ≡ each_member f (row dn ds)
       member_fails {r} q a = a ∙ sym (member_then_rest (Violation r) q)
@@ -74,25 +75,25 @@ module _ {J : Judge} {reason : ℕ} {x : Particle} {bn : ℕ} {bs : List ℕ} wh
   alternatives_start w = record { part = part_start w; rest_says = refl }
 
   module _ {seen : Bool} {t : List ℕ} {j : ℕ} (w : Alternatives J reason x bn bs seen t j) where
-    pub alternatives_end : {m : Mark} → j ≤ 0 → m ≡ definite_of seen (fails reason) → m ≡ alternatives J reason x (row bn bs)
+    pub alternatives_end : {m : Mark} → j ≡ 0 → m ≡ definite_of seen (fails reason) → m ≡ alternatives J reason x (row bn bs)
     unfolding alternatives
     alternatives_end z e =
         e ∙ sym (w.rest_says ∙ ap (λ (y : Items). after_seen seen (alternatives J reason x y)) (row_none j t z) ∙ seen_end seen reason)
 
     -- a turn: v is the mark of x against the alternative, s the part after it
-    module _ (some : 0 < j) {s : List ℕ} (e : s ≡ later_part t) {v : Verdict} (says : mark_of v ≡ J x (tree t)) where
-      alternative_then_rest : (w' : Verdict) → v ≡ w' → alternatives J reason x (row bn bs) ≡ after_seen seen (mark_of w' or_else alternatives J reason x (row (j - 1) s))
+    module _ {b s : List ℕ} {k : ℕ} (g : Step j t b s k) {v : Verdict} (says : mark_of v ≡ J x (tree b)) where
+      alternative_then_rest : (w' : Verdict) → v ≡ w' → alternatives J reason x (row bn bs) ≡ after_seen seen (mark_of w' or_else alternatives J reason x (row k s))
       unfolding alternatives
-      alternative_then_rest w' q = w.rest_says ∙ ap (λ (y : Items). after_seen seen (alternatives J reason x y)) (row_cons w.part.trees some e) ∙ rw (← says, q)
+      alternative_then_rest w' q = w.rest_says ∙ ap (λ (y : Items). after_seen seen (alternatives J reason x y)) (row_cons g w.part.trees) ∙ rw (← says, q)
 
       pub alternative_passes : v ≡ Ok → passes ≡ alternatives J reason x (row bn bs)
       alternative_passes q = sym (alternative_then_rest Ok q ∙ seen_passes seen)
 
-      pub alternative_undecided : v ≡ Unknown → Alternatives J reason x bn bs true s (j - 1)
+      pub alternative_undecided : v ≡ Unknown → Alternatives J reason x bn bs true s k
       alternative_undecided q = record {
-        part = part_next w.part.trees some e w.part.within;
-        rest_says = alternative_then_rest Unknown q ∙ seen_undecided seen (alternatives J reason x (row (j - 1) s));
+        part = part_next g w.part;
+        rest_says = alternative_then_rest Unknown q ∙ seen_undecided seen (alternatives J reason x (row k s));
       }
 
-      pub alternative_fails : {r : Reason} → v ≡ Violation r → Alternatives J reason x bn bs seen s (j - 1)
-      alternative_fails {r} q = record { part = part_next w.part.trees some e w.part.within; rest_says = alternative_then_rest (Violation r) q }
+      pub alternative_fails : {r : Reason} → v ≡ Violation r → Alternatives J reason x bn bs seen s k
+      alternative_fails {r} q = record { part = part_next g w.part; rest_says = alternative_then_rest (Violation r) q }

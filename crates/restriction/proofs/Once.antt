@@ -31,9 +31,10 @@ one_pair p e = go p.max refl (and-true (eqb p.min 1) (is_once_max p.max) e).1
     go (Bounded m) q f = let low : p.min ≡ 1 = eqb-true p.min 1 (and-true (eqb p.min 1) (is_once_max p.max) e).0 in rw (low, q, eqb-true m 1 f)
     go Unbounded q f = absurd (true≢false (sym f))
 
-pub alone : {d : List ℕ} → Run 1 d → each_once true (row 1 d) ≡ single (as_once true (tree d))
+-- the row s of n trees that is the one tree d
+pub alone : {d s : List ℕ} {n : ℕ} → Run 1 d → s ≡ d → n ≡ 1 → each_once true (row n s) ≡ single (as_once true (tree d))
 unfolding each_once
-alone w = ap (each_once true) (row_one w.row)
+alone w e one = rw (e, one) (ap (each_once true) (row_one w.row))
 
 -- an element's head, as a call sees it
 once_pair : (h : Head) {l : ℕ} {p : Occurs} → once_head true h ≡ element l p → p ≡ exactly 1
@@ -57,9 +58,9 @@ module _ {d : List ℕ} (w : Run 1 d) (once : Bool) (leaf : ℕ) (p : Occurs) (h
         go false e = rw (e, pair_is)
 
     module _ (J : Judge) (q : Occurs) (b : Items) where
-      pub sequence_counts_once : {m : Mark} → m ≡ range_ok p q or_fails 105 and_then recurse_ordered J false (each_once true (row 1 d)) b → m ≡ sequence_mark J p q (as_once true (tree d)) (as_once once (tree d)) b
-      sequence_counts_once a =
-          a ∙ (rw (pair_is, alone w) (sym (once_sequence J q (as_once true (tree d)) b)) ∙ ap (λ (y : Particle). sequence_mark J p q (as_once true (tree d)) y b) same)
+      pub sequence_counts_once : {s : List ℕ} {n : ℕ} → s ≡ d → n ≡ 1 → {m : Mark} → m ≡ range_ok p q or_fails 105 and_then recurse_ordered J false (each_once true (row n s)) b → m ≡ sequence_mark J p q (as_once true (tree d)) (as_once once (tree d)) b
+      sequence_counts_once e one a =
+          a ∙ (rw (pair_is, alone w e one) (sym (once_sequence J q (as_once true (tree d)) b)) ∙ ap (λ (y : Particle). sequence_mark J p q (as_once true (tree d)) y b) same)
 
       choice_once_lem : choice_mark J p q (as_once true (tree d)) (as_once true (tree d)) b ≡ range_ok p q or_fails 106 and_then alternatives J 120 (as_once true (tree d)) b
       choice_once_lem = rw pair_is (once_choice J q (as_once true (tree d)) b)

@@ -2,9 +2,10 @@
 use mathlib.Core.Bool.{Bool, true, false, ◌||◌}
 use mathlib.Core.List.{List}
 use mathlib.Core.Path.{◌≡◌, refl, sym, ap, ◌∙◌}
-use Prim.Native.Nat.{ℕ, ◌-◌, ◌≤◌, ◌<◌}
+use lib.ListN.{length}
+use Prim.Native.Nat.{ℕ, ◌≤◌}
 use Rattle.particle.specs.Tree.{Items, none, item, Particle, tree}
-use Rattle.particle.specs.Rows.{row, later_part}
+use Rattle.particle.specs.Rows.{row}
 use Rattle.particle.specs.Empty.{emptiable}
 use Rattle.particle.specs.Runs.{Run}
 use Rattle.rules.specs.Verdicts.{Mark, passes, undecided, fails}
@@ -15,7 +16,7 @@ use Rattle.verdicts.specs.declared.Verdict.TheVariants.{Ok, Unknown, Violation}
 use Rattle.verdicts.specs.Reasons.{reason_number, mark_of, definite_of}
 use Rattle.verdicts.proofs.Marks.{now_seen}
 use Rattle.restriction.specs.Views.{as_once, each_once}
-use Rattle.restriction.proofs.Parts.{cons, Part, part_start, part_next, first_tree, row_none, row_cons}
+use Rattle.restriction.proofs.Parts.{cons, Part, Step, part_start, part_next, row_none, row_cons}
 
 -- no derived item is left
 pub lax_ends : (J : Judge) (bs : Items) → recurse_ordered J true none bs ≡ passes
@@ -60,7 +61,7 @@ module _ (J : Judge) (lax once : Bool) (dn : ℕ) (ds : List ℕ) (bn : ℕ) (bs
 
   -- the derived item that d starts with is tried; the next one starts dt
   pub record Trying (d dt : List ℕ) (i : ℕ) (seen : Bool) (bt : List ℕ) (j : ℕ) : Type 0 where
-    pub tried : Part 1 d ds
+    pub tried : length d ≤ length ds
     pub derived : Part i dt ds
     pub base : Part j bt bs
     pub rest_says : the_walk ≡ definite_of seen (recurse_ordered J lax (cons (as_once once (tree d)) (each_once once (row i dt))) (row j bt))
@@ -70,35 +71,35 @@ module _ {J : Judge} {lax once : Bool} {dn : ℕ} {ds : List ℕ} {bn : ℕ} {bs
   walk_start w v = record { derived = part_start w; base = part_start v; rest_says = refl }
 
   module _ {seen : Bool} {dt : List ℕ} {i : ℕ} {bt : List ℕ} {j : ℕ} (w : Between J lax once dn ds bn bs seen dt i bt j) where
-    pub walk_try : 0 < i → {s : List ℕ} → s ≡ later_part dt → Trying J lax once dn ds bn bs dt s (i - 1) seen bt j
+    pub walk_try : {d s : List ℕ} {k : ℕ} → Step i dt d s k → Trying J lax once dn ds bn bs d s k seen bt j
     unfolding each_once
-    walk_try some e = record {
-      tried = record { trees = first_tree w.derived.trees some; within = w.derived.within };
-      derived = part_next w.derived.trees some e w.derived.within;
+    walk_try g = record {
+      tried = rw g.here w.derived.within;
+      derived = part_next g w.derived;
       base = w.base;
-      rest_says = w.rest_says ∙ ap (λ (x : Items). definite_of seen (recurse_ordered J lax (each_once once x) (row j bt))) (row_cons w.derived.trees some e);
+      rest_says = w.rest_says ∙ ap (λ (x : Items). definite_of seen (recurse_ordered J lax (each_once once x) (row j bt))) (row_cons g w.derived.trees);
     }
 
     -- no derived item is left
-    ended : i ≤ 0 → the_walk J lax once dn ds bn bs ≡ definite_of seen (recurse_ordered J lax none (row j bt))
+    ended : i ≡ 0 → the_walk J lax once dn ds bn bs ≡ definite_of seen (recurse_ordered J lax none (row j bt))
     unfolding each_once
     ended z = w.rest_says ∙ ap (λ (x : Items). definite_of seen (recurse_ordered J lax (each_once once x) (row j bt))) (row_none i dt z)
 
-    pub lax_end : {m : Mark} → i ≤ 0 → lax ≡ true → m ≡ definite_of seen passes → m ≡ the_walk J lax once dn ds bn bs
+    pub lax_end : {m : Mark} → i ≡ 0 → lax ≡ true → m ≡ definite_of seen passes → m ≡ the_walk J lax once dn ds bn bs
     lax_end z l a = a ∙ sym (ended z ∙ rw l (ap (definite_of seen) (lax_ends J (row j bt))))
 
     -- o is what the base items left over say
-    pub strict_end : {o m : Mark} → i ≤ 0 → lax ≡ false → o ≡ left_over (row j bt) → m ≡ definite_of seen o → m ≡ the_walk J lax once dn ds bn bs
+    pub strict_end : {o m : Mark} → i ≡ 0 → lax ≡ false → o ≡ left_over (row j bt) → m ≡ definite_of seen o → m ≡ the_walk J lax once dn ds bn bs
     strict_end z l e a = a ∙ sym (ended z ∙ rw l (ap (definite_of seen) (strict_ends J (row j bt) ∙ sym e)))
 
-  module _ {d dt : List ℕ} {i : ℕ} {seen : Bool} {b : List ℕ} {j : ℕ} (w : Trying J lax once dn ds bn bs d dt i seen b j) where
+  module _ {d dt : List ℕ} {i : ℕ} {seen : Bool} {bt : List ℕ} {j : ℕ} (w : Trying J lax once dn ds bn bs d dt i seen bt j) where
     -- base items are used up
-    pub used_up_lem : {m : Mark} → j ≤ 0 → m ≡ definite_of seen (fails 120) → m ≡ the_walk J lax once dn ds bn bs
+    pub used_up_lem : {m : Mark} → j ≡ 0 → m ≡ definite_of seen (fails 120) → m ≡ the_walk J lax once dn ds bn bs
     unfolding recurse_ordered
-    used_up_lem z a = a ∙ sym (w.rest_says ∙ ap (λ (y : Items). definite_of seen (recurse_ordered J lax (cons (as_once once (tree d)) (each_once once (row i dt))) y)) (row_none j b z))
+    used_up_lem z a = a ∙ sym (w.rest_says ∙ ap (λ (y : Items). definite_of seen (recurse_ordered J lax (cons (as_once once (tree d)) (each_once once (row i dt))) y)) (row_none j bt z))
 
-    -- a turn: v is the mark of the two items, bt the part after the base item
-    module _ (some : 0 < j) {bt : List ℕ} (e : bt ≡ later_part b) where
+    -- a turn: b starts with the base item, and v is the mark of the two items
+    module _ {b bs' : List ℕ} {j' : ℕ} (g : Step j bt b bs' j') where
       abbrev x : Particle
       x = as_once once (tree d)
 
@@ -106,23 +107,23 @@ module _ {J : Judge} {lax once : Bool} {dn : ℕ} {ds : List ℕ} {bn : ℕ} {bs
       r = each_once once (row i dt)
 
       abbrev s : Items
-      s = row (j - 1) bt
+      s = row j' bs'
 
       -- the walk goes on with m
       mark_becomes : {m : Mark} → recurse_ordered J lax (cons x r) (cons (tree b) s) ≡ m → the_walk J lax once dn ds bn bs ≡ definite_of seen m
-      mark_becomes {m} g = w.rest_says ∙ ap (definite_of seen) (ap (recurse_ordered J lax (cons x r)) (row_cons w.base.trees some e) ∙ g)
+      mark_becomes h = w.rest_says ∙ ap (definite_of seen) (ap (recurse_ordered J lax (cons x r)) (row_cons g w.base.trees) ∙ h)
 
-      later_base : Part (j - 1) bt bs
-      later_base = part_next w.base.trees some e w.base.within
+      later_base : Part j' bs' bs
+      later_base = part_next g w.base
 
       module _ {v : Verdict} (says : mark_of v ≡ J x (tree b)) where
         says_as : (v' : Verdict) → v ≡ v' → J x (tree b) ≡ mark_of v'
         says_as v' q = sym says ∙ ap mark_of q
 
-        pub both_advance : v ≡ Ok → Between J lax once dn ds bn bs seen dt i bt (j - 1)
+        pub both_advance : v ≡ Ok → Between J lax once dn ds bn bs seen dt i bs' j'
         both_advance q = record { derived = w.derived; base = later_base; rest_says = mark_becomes (step_passes J lax x (tree b) r s (says_as Ok q)) }
 
-        pub seen_advance : v ≡ Unknown → Between J lax once dn ds bn bs true dt i bt (j - 1)
+        pub seen_advance : v ≡ Unknown → Between J lax once dn ds bn bs true dt i bs' j'
         seen_advance q = record {
           derived = w.derived;
           base = later_base;
@@ -130,7 +131,7 @@ module _ {J : Judge} {lax once : Bool} {dn : ℕ} {ds : List ℕ} {bn : ℕ} {bs
         }
 
         module _ {k : Reason} (q : v ≡ Violation k) where
-          skips : lax || emptiable (tree b) ≡ true → Trying J lax once dn ds bn bs d dt i seen bt (j - 1)
+          skips : lax || emptiable (tree b) ≡ true → Trying J lax once dn ds bn bs d dt i seen bs' j'
           skips h = record {
             tried = w.tried;
             derived = w.derived;
@@ -138,11 +139,11 @@ module _ {J : Judge} {lax once : Bool} {dn : ℕ} {ds : List ℕ} {bn : ℕ} {bs
             rest_says = mark_becomes (step_skips J lax x (tree b) r s (says_as (Violation k) q) h);
           }
 
-          pub skip_lax : lax ≡ true → Trying J lax once dn ds bn bs d dt i seen bt (j - 1)
+          pub skip_lax : lax ≡ true → Trying J lax once dn ds bn bs d dt i seen bs' j'
           skip_lax l = skips (rw l)
 
           module _ (l : lax ≡ false) {m : Bool} (empty : m ≡ emptiable (tree b)) where
-            pub skip_emptiable : m ≡ true → Trying J lax once dn ds bn bs d dt i seen bt (j - 1)
+            pub skip_emptiable : m ≡ true → Trying J lax once dn ds bn bs d dt i seen bs' j'
             skip_emptiable h = skips (rw (l, ← empty, h))
 
             pub item_fails : {u : Mark} → m ≡ false → u ≡ definite_of seen (fails (reason_number k)) → u ≡ the_walk J lax once dn ds bn bs

@@ -1,7 +1,7 @@
 -- Parts of a row's bytes, tree after tree, and the number by which the cycle of the rules ends. Assumes nothing.
 use mathlib.Core.List.{List}
 use mathlib.Core.Path.{◌≡◌, ap, ◌∙◌}
-use Prim.Native.Nat.{ℕ, suc, ◌+◌, ◌*◌, ◌-◌, ◌≤◌, ◌<◌}
+use Prim.Native.Nat.{ℕ, suc, ◌+◌, ◌*◌, ◌≤◌}
 use native.Mathlib.Nat.{le_refl}
 use native.Mathlib.Omega.{arith}
 use lib.ListN.{length}
@@ -10,7 +10,7 @@ use Rattle.particle.specs.Rows.{row, later_part}
 use Rattle.particle.specs.Runs.{Run}
 use Rattle.particle.proofs.Trees.{count_i_take}
 use Rattle.particle.proofs.Laws.{row_is, later_shorter}
-use Rattle.particle.proofs.Runs.{run_le, later_run}
+use Rattle.particle.proofs.Runs.{run_le, run_rest}
 
 -- a tree in front of others
 abbrev pub cons : Particle → Items → Items
@@ -24,32 +24,37 @@ pub record Part (n : ℕ) (t whole : List ℕ) : Type 0 where
 pub part_start : {n : ℕ} {t : List ℕ} → Run n t → Part n t t
 part_start w = record { trees = w; within = le_refl _ }
 
-pub row_none : (n : ℕ) (t : List ℕ) → n ≤ 0 → row n t ≡ none
+pub row_none : (n : ℕ) (t : List ℕ) → n ≡ 0 → row n t ≡ none
 unfolding take_i
-row_none n t z = let e : n ≡ 0 = omega arith in rw e
+row_none n t e = rw e
 
 pub row_count : {n : ℕ} {t : List ℕ} → Run n t → count_i (row n t) ≡ n
 row_count {n} {t} w = count_i_take n (decode t) w.row.enough
 
-module _ {n : ℕ} {t : List ℕ} (w : Run n t) (some : 0 < n) where
-  pub first_tree : Run 1 t
-  first_tree = run_le some w
+-- A step over the first n trees of t: it gives the tree that `first` starts with, and leaves the first k trees of `rest`.
+pub record Step (n : ℕ) (t first rest : List ℕ) (k : ℕ) : Type 0 where
+  pub here : first ≡ t
+  pub after : rest ≡ later_part t
+  pub fewer : n ≡ suc k
 
-  from_suc : Run (suc (n - 1)) t
-  from_suc = run_le (omega arith) w
+pub step : {n k : ℕ} {t first rest : List ℕ} → (first ≡ t) × (rest ≡ later_part t) × (n ≡ k + 1) → Step n t first rest k
+step g = record { here = g.0; after = g.1; fewer = omega (arith, g.2) }
 
-  -- s is the part after the first tree
-  module _ {s : List ℕ} (e : s ≡ later_part t) where
-    pub row_cons : row n t ≡ cons (tree t) (row (n - 1) s)
-    row_cons =
-        let z : n ≡ suc (n - 1) = omega arith in
-        ap (λ (k : ℕ). row k t) z ∙ (row_is from_suc.row ∙ rw e)
+module _ {n k : ℕ} {t first rest : List ℕ} (g : Step n t first rest k) where
+  from_suc : Run n t → Run (suc k) t
+  from_suc w = run_le (omega (arith, g.fewer)) w
 
-    pub later_trees : Run (n - 1) s
-    later_trees = rw e (later_run from_suc)
+  pub row_cons : Run n t → row n t ≡ cons (tree first) (row k rest)
+  row_cons w = ap (λ (j : ℕ). row j t) g.fewer ∙ (row_is (from_suc w).row ∙ rw (g.here, g.after))
 
-    pub part_next : {whole : List ℕ} → length t ≤ length whole → Part (n - 1) s whole
-    part_next l = record { trees = later_trees; within = rw e (omega (arith, later_shorter from_suc.row)) }
+  pub first_within : {whole : List ℕ} → Part n t whole → length first ≤ length whole
+  first_within w = rw g.here w.within
+
+  pub part_next : {whole : List ℕ} → Part n t whole → Part k rest whole
+  part_next w = record {
+    trees = rw g.after (run_rest g.fewer w.trees);
+    within = rw g.after (let l = later_shorter (from_suc w.trees).row in omega (arith, w.within, l));
+  }
 
 -- What falls with each call: six times the bytes left, and the steps to the next entry of the rule, five at most.
 abbrev pub weight : ℕ → (d b : List ℕ) → ℕ

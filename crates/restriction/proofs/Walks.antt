@@ -2,11 +2,11 @@
 use mathlib.Core.Bool.{Bool, true, false, ◌||◌, false≢true}
 use mathlib.Core.List.{List}
 use mathlib.Core.Path.{◌≡◌, refl, ap, sym, ◌∙◌}
-use Prim.Native.Nat.{ℕ, ◌-◌, ◌≤◌, ◌<◌}
+use Prim.Native.Nat.{ℕ}
 use Rattle.particle.specs.declared.Occurs.{Occurs}
 use Rattle.particle.specs.Occurs.{range_ok}
 use Rattle.particle.specs.Tree.{Items, none, Particle, single, tree}
-use Rattle.particle.specs.Rows.{row, later_part}
+use Rattle.particle.specs.Rows.{row}
 use Rattle.particle.specs.Runs.{Run}
 use Rattle.particle.specs.Empty.{emptiable}
 use Rattle.rules.specs.Verdicts.{Mark, passes, undecided, fails}
@@ -23,7 +23,7 @@ use Rattle.restriction.specs.declared.marks.Standing.{Standing}
 use Rattle.restriction.specs.declared.marks.Standing.TheVariants.{On}
 use Rattle.restriction.specs.Views.{as_once, each_once}
 use Rattle.restriction.specs.Marks.{BothMarks, sequence_mark, sequence_once, choice_mark, choice_once, Stands, on, ended, standing, walked_on, came_to, settled_at}
-use Rattle.restriction.proofs.Parts.{cons, Part, part_start, part_next, row_none, row_cons}
+use Rattle.restriction.proofs.Parts.{cons, Part, Step, part_start, part_next, row_none, row_cons}
 use Rattle.restriction.proofs.Readings.{base_passes, base_fails}
 use Rattle.restriction.proofs.Once.{alone}
 use Rattle.restriction.proofs.OrderedWalk.{lax_ends, strict_ends, step_passes, step_undecided, step_skips, step_fails}
@@ -62,7 +62,7 @@ pub record Choosing (J : Judge) (reason : ℕ) (x : Particle) (bn : ℕ) (bs : L
   pub keeps : mark_of v or_else fails reason ≡ mark_of v
 
 module _ {J : Judge} {x : Particle} {bn : ℕ} {bs t : List ℕ} {j : ℕ} where
-  walk_end : {lax : Bool} {st : Standing} → Walking J lax x bn bs st t j → j ≤ 0 → recurse_ordered J lax (single x) (row bn bs) ≡ came_to (standing st)
+  walk_end : {lax : Bool} {st : Standing} → Walking J lax x bn bs st t j → j ≡ 0 → recurse_ordered J lax (single x) (row bn bs) ≡ came_to (standing st)
   unfolding recurse_ordered
   walk_end {lax} {st} w z = w.rest_says ∙ (ap (λ (y : Items). walk_goes_on (standing st) (recurse_ordered J lax (single x) y)) (row_none j t z) ∙ go (standing st))
     where
@@ -70,27 +70,27 @@ module _ {J : Judge} {x : Particle} {bn : ℕ} {bs t : List ℕ} {j : ℕ} where
       go on = refl
       go (ended k) = refl
 
-  choose_end : {k : ℕ} {v : Verdict} → Choosing J k x bn bs v t j → j ≤ 0 → alternatives J k x (row bn bs) ≡ mark_of v
+  choose_end : {k : ℕ} {v : Verdict} → Choosing J k x bn bs v t j → j ≡ 0 → alternatives J k x (row bn bs) ≡ mark_of v
   unfolding alternatives
   choose_end {k} {v} w z = w.rest_says ∙ (ap (λ (y : Items). mark_of v or_else alternatives J k x y) (row_none j t z) ∙ w.keeps)
 
   -- a turn: m is the mark of x at the next item, s the part after it
-  module _ (trees : Run j t) (some : 0 < j) {s : List ℕ} (e : s ≡ later_part t) {m : Mark} (says : m ≡ J x (tree t)) where
-    walk_next : {lax : Bool} {st st' : Standing} → Walking J lax x bn bs st t j → standing st' ≡ walked_on (standing st) m lax (emptiable (tree t)) (left_over (row (j - 1) s)) → Walking J lax x bn bs st' s (j - 1)
+  module _ (trees : Run j t) {b s : List ℕ} {j' : ℕ} (g : Step j t b s j') {m : Mark} (says : m ≡ J x (tree b)) where
+    walk_next : {lax : Bool} {st st' : Standing} → Walking J lax x bn bs st t j → standing st' ≡ walked_on (standing st) m lax (emptiable (tree b)) (left_over (row j' s)) → Walking J lax x bn bs st' s j'
     walk_next {lax} {st} w a = record {
       rest_says =
           w.rest_says
-          ∙ (ap (λ (y : Items). walk_goes_on (standing st) (recurse_ordered J lax (single x) y)) (row_cons trees some e)
-          ∙ (walk_step J lax x (tree t) (row (j - 1) s) (standing st) ∙ rw (a, says)));
+          ∙ (ap (λ (y : Items). walk_goes_on (standing st) (recurse_ordered J lax (single x) y)) (row_cons g trees)
+          ∙ (walk_step J lax x (tree b) (row j' s) (standing st) ∙ rw (a, says)));
     }
 
-    choose_next : {k : ℕ} {u u' : Verdict} → Choosing J k x bn bs u t j → mark_of u' ≡ combine_readings (mark_of u) m → Choosing J k x bn bs u' s (j - 1)
+    choose_next : {k : ℕ} {u u' : Verdict} → Choosing J k x bn bs u t j → mark_of u' ≡ combine_readings (mark_of u) m → Choosing J k x bn bs u' s j'
     unfolding alternatives
     choose_next {k} {u} w a = record {
       rest_says =
           w.rest_says
-          ∙ (ap (λ (y : Items). mark_of u or_else alternatives J k x y) (row_cons trees some e)
-          ∙ rw (a, ← says) (either (mark_of u) m (alternatives J k x (row (j - 1) s))));
+          ∙ (ap (λ (y : Items). mark_of u or_else alternatives J k x y) (row_cons g trees)
+          ∙ rw (a, ← says) (either (mark_of u) m (alternatives J k x (row j' s))));
       keeps = rw a (kept (mark_of u) m w.keeps);
     }
       where
@@ -119,17 +119,17 @@ module _ (J : Judge) (p q : Occurs) {d : List ℕ} (w : Run 1 d) (b : Items) (v 
   abbrev x : Particle
   x = as_once true (tree d)
 
-  pub sequence_ruled_out : {wrapped : Mark} → mark_of v ≡ base_once q 110 → wrapped ≡ range_ok p q or_fails 105 and_then recurse_ordered J false (each_once true (row 1 d)) b → BothMarks marks (fails 105) (combine_readings wrapped (mark_of v))
+  pub sequence_ruled_out : {s : List ℕ} {n : ℕ} → s ≡ d → n ≡ 1 → {wrapped : Mark} → mark_of v ≡ base_once q 110 → wrapped ≡ range_ok p q or_fails 105 and_then recurse_ordered J false (each_once true (row n s)) b → BothMarks marks (fails 105) (combine_readings wrapped (mark_of v))
       → BothMarks marks (sequence_once J q x b) (sequence_mark J p q x (tree d) b)
-  sequence_ruled_out g a e =
+  sequence_ruled_out i one g a e =
       let f = base_fails q 105 110 v g t (recurse_ordered J false (single x) b) (recurse_ordered J false (single (tree d)) b) in
-      (e.0 ∙ sym f.0, e.1 ∙ rw (a, alone w, f.1))
+      (e.0 ∙ sym f.0, e.1 ∙ rw (a, alone w i one, f.1))
 
-  pub choice_ruled_out : {wrapped : Mark} → mark_of v ≡ base_once q 112 → wrapped ≡ range_ok p q or_fails 106 and_then recurse_ordered J true (each_once true (row 1 d)) b → BothMarks marks (fails 106) (combine_readings wrapped (mark_of v))
+  pub choice_ruled_out : {s : List ℕ} {n : ℕ} → s ≡ d → n ≡ 1 → {wrapped : Mark} → mark_of v ≡ base_once q 112 → wrapped ≡ range_ok p q or_fails 106 and_then recurse_ordered J true (each_once true (row n s)) b → BothMarks marks (fails 106) (combine_readings wrapped (mark_of v))
       → BothMarks marks (choice_once J q x b) (choice_mark J p q x (tree d) b)
-  choice_ruled_out g a e =
+  choice_ruled_out i one g a e =
       let f = base_fails q 106 112 v g t (alternatives J 120 x b) (alternatives J 111 (tree d) b) in
-      (e.0 ∙ sym f.0, e.1 ∙ rw (a, alone w, f.1))
+      (e.0 ∙ sym f.0, e.1 ∙ rw (a, alone w i one, f.1))
 
 -- Against a sequence: two walks.
 pub record TwoWalks (J : Judge) (x y : Particle) (bn : ℕ) (bs : List ℕ) (once own : Standing) (t : List ℕ) (j : ℕ) : Type 0 where
@@ -193,13 +193,13 @@ module _ {J : Judge} {x y : Particle} {bn : ℕ} {bs : List ℕ} where
   module _ {t : List ℕ} {j : ℕ} where
     module _ {once own : Standing} (w : TwoWalks J x y bn bs once own t j) where
       -- a turn: both marks at the item, and the part after it
-      module _ (some : 0 < j) {s : List ℕ} (e : s ≡ later_part t) (marks : Marks) (says : BothMarks marks (J x (tree t)) (J y (tree t))) where
-        pub walks_next : {once' own' : Standing} → standing once' ≡ walked_on (standing once) (mark_of marks.once) false (emptiable (tree t)) (left_over (row (j - 1) s))
-            → standing own' ≡ walked_on (standing own) (mark_of marks.own) false (emptiable (tree t)) (left_over (row (j - 1) s)) → TwoWalks J x y bn bs once' own' s (j - 1)
-        walks_next a b = record {
-          part = part_next w.part.trees some e w.part.within;
-          once_walk = walk_next w.part.trees some e says.0 w.once_walk a;
-          own_walk = walk_next w.part.trees some e says.1 w.own_walk b;
+      module _ {b s : List ℕ} {j' : ℕ} (g : Step j t b s j') (marks : Marks) (says : BothMarks marks (J x (tree b)) (J y (tree b))) where
+        pub walks_next : {once' own' : Standing} → standing once' ≡ walked_on (standing once) (mark_of marks.once) false (emptiable (tree b)) (left_over (row j' s))
+            → standing own' ≡ walked_on (standing own) (mark_of marks.own) false (emptiable (tree b)) (left_over (row j' s)) → TwoWalks J x y bn bs once' own' s j'
+        walks_next a a' = record {
+          part = part_next g w.part;
+          once_walk = walk_next w.part.trees g says.0 w.once_walk a;
+          own_walk = walk_next w.part.trees g says.1 w.own_walk a';
         }
 
       -- the end: v is what the base's own pair says, `within` what its range says of p
@@ -217,7 +217,7 @@ module _ {J : Judge} {x y : Particle} {bn : ℕ} {bs : List ℕ} where
             let f = base_passes q 105 110 v base o walk_once walk_own in
             (a.0 ∙ sym (f.0 ∙ c), a.1 ∙ sym (rw (f.1, ← in_range_lem) d))
 
-        pub walks_end : j ≤ 0 → BothMarks marks (sequence_once J q x (row bn bs)) (sequence_mark J p q x y (row bn bs))
+        pub walks_end : j ≡ 0 → BothMarks marks (sequence_once J q x (row bn bs)) (sequence_mark J p q x y (row bn bs))
         walks_end z =
             let c = walk_end w.once_walk z in
             let d = walk_end w.own_walk z in
@@ -231,15 +231,15 @@ module _ {J : Judge} {x y : Particle} {bn : ℕ} {bs : List ℕ} where
             (rw (w.once_walk.rest_says, w.own_walk.rest_says) (settled_own within 105 (standing once) (standing own) (sym i ∙ s) m n))
 
     module _ {first : Standing} {once own : Verdict} (w : ThreeReadings J x y bn bs first once own t j) where
-      module _ (some : 0 < j) {s : List ℕ} (e : s ≡ later_part t) (marks : Marks) (says : BothMarks marks (J x (tree t)) (J y (tree t))) where
-        pub readings_next : {first' : Standing} {once' own' : Verdict} → standing first' ≡ walked_on (standing first) (mark_of marks.once) true (emptiable (tree t)) (left_over (row (j - 1) s))
+      module _ {b s : List ℕ} {j' : ℕ} (g : Step j t b s j') (marks : Marks) (says : BothMarks marks (J x (tree b)) (J y (tree b))) where
+        pub readings_next : {first' : Standing} {once' own' : Verdict} → standing first' ≡ walked_on (standing first) (mark_of marks.once) true (emptiable (tree b)) (left_over (row j' s))
             → mark_of once' ≡ combine_readings (mark_of once) (mark_of marks.once) → mark_of own' ≡ combine_readings (mark_of own) (mark_of marks.own)
-            → ThreeReadings J x y bn bs first' once' own' s (j - 1)
-        readings_next a b c = record {
-          part = part_next w.part.trees some e w.part.within;
-          first_walk = walk_next w.part.trees some e says.0 w.first_walk a;
-          once_any = choose_next w.part.trees some e says.0 w.once_any b;
-          own_any = choose_next w.part.trees some e says.1 w.own_any c;
+            → ThreeReadings J x y bn bs first' once' own' s j'
+        readings_next a o c = record {
+          part = part_next g w.part;
+          first_walk = walk_next w.part.trees g says.0 w.first_walk a;
+          once_any = choose_next w.part.trees g says.0 w.once_any o;
+          own_any = choose_next w.part.trees g says.1 w.own_any c;
         }
 
       -- the end: u is the mark by both readings
@@ -260,7 +260,7 @@ module _ {J : Judge} {x y : Particle} {bn : ℕ} {bs : List ℕ} where
             let f = base_passes q 106 112 v base o any_once any_own in
             (c ∙ sym f.0, d ∙ sym (rw (f.1, ← in_range_lem)))
 
-        pub readings_end : (marks : Marks) → marks.once ≡ once → marks.own ≡ u → j ≤ 0 → BothMarks marks (choice_once J q x (row bn bs)) (choice_mark J p q x y (row bn bs))
+        pub readings_end : (marks : Marks) → marks.once ≡ once → marks.own ≡ u → j ≡ 0 → BothMarks marks (choice_once J q x (row bn bs)) (choice_mark J p q x y (row bn bs))
         readings_end marks c d z = by_readings marks (ap mark_of c ∙ sym (choose_end w.once_any z)) (ap mark_of d ∙ (reads ∙ sym (rw (walk_end w.first_walk z, choose_end w.own_any z))))
 
         pub readings_pass : (marks : Marks) → marks.once ≡ Ok → marks.own ≡ Ok → once ≡ Ok → u ≡ Ok → BothMarks marks (choice_once J q x (row bn bs)) (choice_mark J p q x y (row bn bs))

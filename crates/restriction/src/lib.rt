@@ -1,8 +1,5 @@
 // The mark of two tidied trees: `restrict` selects a rule by the two kinds, and the rules ask it for the marks of items.
-// A part of a tree's bytes that starts at a record stands for the trees from there on; where several are meant, a count goes with it.
-// The trees are measured, so that a step from one item to the next takes no longer where the item is a large group.
-// A slice is handed on as `&d[..]`, and the answer of a longer rule has a name before it is handed back: so the compiler has both in
-// registers. Else they are written in parts and at once read as a whole, which takes as long as the rest of a judgement.
+// The trees are measured, which their types say, so that a step from one item to the next takes no longer where the item is a large group.
 #![tactic(auto)]
 
 mod marks;
@@ -11,10 +8,8 @@ mod rows;
 
 ghost use Rattle.std.specs.Prelude.{◌≡◌, true, false, ◌≤◌};
 ghost use Rattle.particle.specs.Occurs.{range_ok};
-ghost use Rattle.particle.specs.Record.{max_records};
-ghost use Rattle.particle.specs.Tree.{element, tree};
-ghost use Rattle.particle.specs.Rows.{row};
-ghost use Rattle.particle.specs.Runs.{Run};
+ghost use Rattle.particle.specs.Tree.{element};
+ghost use Rattle.particle.specs.MeasuredTrees.{tree_of, row_of, items_of};
 ghost use Rattle.totals.specs.Total.{total, total_ok};
 ghost use Rattle.rules.specs.Combine.{◌or_fails◌, ◌and_then◌};
 ghost use Rattle.rules.specs.Walk.{recurse_ordered, alternatives, each_member};
@@ -25,20 +20,18 @@ ghost use Rattle.restriction.specs.Marks.{sequence_mark, choice_mark};
 
 use marks::{choice_marks, sequence_marks};
 use pairs::{base_range, counts_once, derived_range, exactly_one, kind_of, times_count};
-use particle::Occurs;
+use particle::{MeasuredTree, MeasuredTrees, Occurs};
 use rows::{group_all, left_over};
 use verdicts::{Paper, Reason, Verdict};
 
-// The first tree of d against the first of b. With once, an element of d counts with the pair (1,1); with any, a wildcard of b with (0, unbounded).
+// The tree d against the tree b. With once, an element d counts with the pair (1,1); with any, a wildcard b with (0, unbounded).
 // Two elements that the first table keeps apart take no further call.
 #[cycle(restrict)]
-pub fn restrict(d: &[u8], once: bool, b: &[u8], any: bool, paper: &Paper) -> Verdict
-    requires d_run { Run 1 d.now }
-    requires b_run { Run 1 b.now }
-    ensures { mark_of result ≡ paper_judge paper.now (as_once once (tree d.now)) (as_any any (tree b.now)) }
+pub fn restrict(d: MeasuredTree, once: bool, b: MeasuredTree, any: bool, paper: &Paper) -> Verdict
+    ensures { mark_of result ≡ paper_judge paper.now (as_once once (tree_of d.entry)) (as_any any (tree_of b.entry)) }
 {
-    let dr = particle::record_at(d);
-    let br = particle::record_at(b);
+    let dr = d.record();
+    let br = b.record();
     if dr.kind == particle::ELEMENT {
         if br.kind == particle::ELEMENT {
             let v = paper.first(dr.leaf, br.leaf);
@@ -47,63 +40,43 @@ pub fn restrict(d: &[u8], once: bool, b: &[u8], any: bool, paper: &Paper) -> Ver
             };
         }
     }
-    let v = by_kinds(&d[..], once, &b[..], any, paper);
-    v
+    by_kinds(d, once, b, any, paper)
 }
 
 // The same by the two kinds, as one number: each selects its rule.
 #[cycle(restrict)]
-fn by_kinds(d: &[u8], once: bool, b: &[u8], any: bool, paper: &Paper) -> Verdict
-    requires d_run { Run 1 d.now }
-    requires b_run { Run 1 b.now }
-    ensures { mark_of result ≡ paper_judge paper.now (as_once once (tree d.now)) (as_any any (tree b.now)) }
+fn by_kinds(d: MeasuredTree, once: bool, b: MeasuredTree, any: bool, paper: &Paper) -> Verdict
+    ensures { mark_of result ≡ paper_judge paper.now (as_once once (tree_of d.entry)) (as_any any (tree_of b.entry)) }
 {
-    let dr = particle::record_at(d);
-    let br = particle::record_at(b);
+    let dr = d.record();
+    let br = b.record();
     let p = derived_range(dr, once);
     let q = base_range(br, any);
-    let ds = particle::items(d);
-    let bs = particle::items(b);
-    let dn = dr.count as usize;
-    let bn = br.count as usize;
+    let ds = d.items();
+    let bs = b.items();
     let one = exactly_one();
     match 5 * kind_of(dr) + kind_of(br) {
         0 => paper.element_restrict(dr.leaf, p, br.leaf, q),
         1 => paper.element_wildcard(dr.leaf, p, br.leaf, q),
-        2 => element_sequence(&d[..], once, dr.leaf, p, bs, bn, q, paper),
-        3 => element_choice(&d[..], once, dr.leaf, p, bs, bn, q, paper),
+        2 => element_sequence(d, once, dr.leaf, p, bs, q, paper),
+        3 => element_choice(d, once, dr.leaf, p, bs, q, paper),
         4 => Verdict::Unknown,
         5 => Verdict::Violation(Reason::WildcardElement),
         6 => paper.wildcard_wildcard(dr.leaf, p, br.leaf, q),
         7 => Verdict::Violation(Reason::WildcardGroup),
         8 => Verdict::Violation(Reason::WildcardGroup),
         9 => Verdict::Violation(Reason::WildcardGroup),
-        10 => same_kind(ds, dn, false, p, &b[..], 1, one, false, paper),
-        11 => {
-            let v = group_wildcard(&d[..], ds, dn, &b[..], q, paper);
-            v
-        }
-        12 => same_kind(ds, dn, false, p, bs, bn, q, false, paper),
-        13 => sequence_choice(ds, dn, p, bs, bn, q, paper),
-        14 => {
-            let v = group_all(ds, dn, p, bs, bn, q, false, paper);
-            v
-        }
-        15 => same_kind(ds, dn, false, p, &b[..], 1, one, true, paper),
-        16 => {
-            let v = group_wildcard(&d[..], ds, dn, &b[..], q, paper);
-            v
-        }
-        18 => same_kind(ds, dn, false, p, bs, bn, q, true, paper),
+        10 => same_kind(ds, false, p, b.alone(), one, false, paper),
+        11 => group_wildcard(d, b, q, paper),
+        12 => same_kind(ds, false, p, bs, q, false, paper),
+        13 => sequence_choice(ds, p, bs, q, paper),
+        14 => group_all(ds, p, bs, q, false, paper),
+        15 => same_kind(ds, false, p, b.alone(), one, true, paper),
+        16 => group_wildcard(d, b, q, paper),
+        18 => same_kind(ds, false, p, bs, q, true, paper),
         20 => Verdict::Unknown,
-        21 => {
-            let v = group_wildcard(&d[..], ds, dn, &b[..], q, paper);
-            v
-        }
-        24 => {
-            let v = group_all(ds, dn, p, bs, bn, q, true, paper);
-            v
-        }
+        21 => group_wildcard(d, b, q, paper),
+        24 => group_all(ds, p, bs, q, true, paper),
         _ => Verdict::Violation(Reason::GroupKind),
     }
 }
@@ -111,37 +84,20 @@ fn by_kinds(d: &[u8], once: bool, b: &[u8], any: bool, paper: &Paper) -> Verdict
 // The ordered walk: a tree of ds is tried on the trees of bs in turn.
 #[cycle(restrict)]
 fn recurse_ordered(
-    ds: &[u8],
-    dn: usize,
+    ds: MeasuredTrees,
     once: bool,
-    bs: &[u8],
-    bn: usize,
+    bs: MeasuredTrees,
     lax: bool,
     paper: &Paper,
 ) -> Verdict
-    requires ds_run { Run dn ds.now }
-    requires bs_run { Run bn bs.now }
-    ensures { mark_of result ≡ recurse_ordered (paper_judge paper.now) lax (each_once once (row dn ds.now)) (row bn bs.now) }
+    ensures { mark_of result ≡ recurse_ordered (paper_judge paper.now) lax (each_once once (row_of ds.entry)) (row_of bs.entry) }
 {
     let mut seen = false;
-    let mut ditems = ds;
-    let mut i = dn;
-    let mut bitems = bs;
-    let mut j = bn;
-    'derived: while 0 < i {
-        let d = ditems;
-        let dnext = particle::next(d);
-        ditems = dnext;
-        i -= 1;
-        'base: while 0 < j {
-            let b = bitems;
-            let bnext = particle::next(b);
-            bitems = bnext;
-            j -= 1;
+    let mut left = bs;
+    'derived: for d in ds {
+        'base: while let Some(b) = left.next() {
             match restrict(d, once, b, false, paper) {
-                Verdict::Ok => {
-                    continue 'derived;
-                }
+                Verdict::Ok => continue 'derived,
                 Verdict::Unknown => {
                     seen = true;
                     continue 'derived;
@@ -150,7 +106,7 @@ fn recurse_ordered(
                     if lax {
                         continue 'base;
                     }
-                    if particle::told_emptiable(b) {
+                    if b.emptiable() {
                         continue 'base;
                     }
                     return verdicts::definite(Verdict::Violation(r), seen);
@@ -162,31 +118,22 @@ fn recurse_ordered(
     if lax {
         return verdicts::definite(Verdict::Ok, seen);
     }
-    verdicts::definite(left_over(bitems, j), seen)
+    verdicts::definite(left_over(left), seen)
 }
 
-// The first tree of d against those of bs as alternatives, with the reason where none is left.
+// The tree d against those of bs as alternatives, with the reason where none is left.
 #[cycle(restrict)]
 fn any_alternative(
-    d: &[u8],
+    d: MeasuredTree,
     once: bool,
-    bs: &[u8],
-    bn: usize,
+    bs: MeasuredTrees,
     reason: Reason,
     paper: &Paper,
 ) -> Verdict
-    requires d_run { Run 1 d.now }
-    requires bs_run { Run bn bs.now }
-    ensures { mark_of result ≡ alternatives (paper_judge paper.now) (reason_number reason) (as_once once (tree d.now)) (row bn bs.now) }
+    ensures { mark_of result ≡ alternatives (paper_judge paper.now) (reason_number reason) (as_once once (tree_of d.entry)) (row_of bs.entry) }
 {
     let mut seen = false;
-    let mut bitems = bs;
-    let mut left = bn;
-    while 0 < left {
-        let b = bitems;
-        let next = particle::next(b);
-        bitems = next;
-        left -= 1;
+    for b in bs {
         match restrict(d, once, b, false, paper) {
             Verdict::Ok => {
                 return Verdict::Ok;
@@ -203,22 +150,18 @@ fn any_alternative(
 // Sequence against sequence, or choice against choice, which is lax: range, ordered walk.
 #[cycle(restrict)]
 fn same_kind(
-    ds: &[u8],
-    dn: usize,
+    ds: MeasuredTrees,
     once: bool,
     p: Occurs,
-    bs: &[u8],
-    bn: usize,
+    bs: MeasuredTrees,
     q: Occurs,
     lax: bool,
     paper: &Paper,
 ) -> Verdict
-    requires ds_run { Run dn ds.now }
-    requires bs_run { Run bn bs.now }
-    ensures { mark_of result ≡ range_ok p q or_fails range_reason lax and_then recurse_ordered (paper_judge paper.now) lax (each_once once (row dn ds.now)) (row bn bs.now) }
+    ensures { mark_of result ≡ range_ok p q or_fails range_reason lax and_then recurse_ordered (paper_judge paper.now) lax (each_once once (row_of ds.entry)) (row_of bs.entry) }
 {
     if particle::range_ok(p, q) {
-        return recurse_ordered(ds, dn, once, bs, bn, lax, paper);
+        return recurse_ordered(ds, once, bs, lax, paper);
     }
     if lax {
         return Verdict::Violation(Reason::ChoiceRange);
@@ -230,74 +173,59 @@ fn same_kind(
 // within the base's both fail. Any other has two, which one pass gives.
 #[cycle(restrict)]
 fn element_sequence(
-    d: &[u8],
+    d: MeasuredTree,
     once: bool,
     leaf: u8,
     p: Occurs,
-    bs: &[u8],
-    bn: usize,
+    bs: MeasuredTrees,
     q: Occurs,
     paper: &Paper,
 ) -> Verdict
-    requires d_run { Run 1 d.now }
-    requires d_element { once_head once (tree d.now).head ≡ element leaf p }
-    requires bs_run { Run bn bs.now }
-    ensures { mark_of result ≡ sequence_mark (paper_judge paper.now) p q (as_once true (tree d.now)) (as_once once (tree d.now)) (row bn bs.now) }
+    requires { once_head once (tree_of d).head ≡ element leaf p }
+    ensures { mark_of result ≡ sequence_mark (paper_judge paper.now) p q (as_once true (tree_of d.entry)) (as_once once (tree_of d.entry)) (row_of bs.entry) }
 {
     if counts_once(p) {
-        return same_kind(d, 1, true, p, bs, bn, q, false, paper);
+        return same_kind(d.alone(), true, p, bs, q, false, paper);
     }
-    let marks = sequence_marks(d, leaf, p, bs, bn, q, paper);
+    let marks = sequence_marks(d, leaf, p, bs, q, paper);
     marks.own
 }
 
 // Element against choice, in the same way: of one that counts once both readings ask the same of each alternative.
 #[cycle(restrict)]
 fn element_choice(
-    d: &[u8],
+    d: MeasuredTree,
     once: bool,
     leaf: u8,
     p: Occurs,
-    bs: &[u8],
-    bn: usize,
+    bs: MeasuredTrees,
     q: Occurs,
     paper: &Paper,
 ) -> Verdict
-    requires d_run { Run 1 d.now }
-    requires d_element { once_head once (tree d.now).head ≡ element leaf p }
-    requires bs_run { Run bn bs.now }
-    ensures { mark_of result ≡ choice_mark (paper_judge paper.now) p q (as_once true (tree d.now)) (as_once once (tree d.now)) (row bn bs.now) }
+    requires { once_head once (tree_of d).head ≡ element leaf p }
+    ensures { mark_of result ≡ choice_mark (paper_judge paper.now) p q (as_once true (tree_of d.entry)) (as_once once (tree_of d.entry)) (row_of bs.entry) }
 {
     if counts_once(p) {
         if !particle::range_ok(p, q) {
             return Verdict::Violation(Reason::ChoiceRange);
         }
-        return any_alternative(d, true, bs, bn, Reason::NotAllowed, paper);
+        return any_alternative(d, true, bs, Reason::NotAllowed, paper);
     }
-    let marks = choice_marks(d, leaf, p, bs, bn, q, paper);
+    let marks = choice_marks(d, leaf, p, bs, q, paper);
     marks.own
 }
 
 // Group against wildcard: total range, then each member against the wildcard with pair (0, unbounded).
 #[cycle(restrict)]
-fn group_wildcard(group: &[u8], ds: &[u8], dn: usize, b: &[u8], q: Occurs, paper: &Paper) -> Verdict
-    requires group_run { Run 1 group.now }
-    requires ds_run { Run dn ds.now }
-    requires b_run { Run 1 b.now }
-    ensures { mark_of result ≡ total_ok (total (tree group.now)) q or_fails 113 and_then each_member (λ x. paper_judge paper.now x (as_any true (tree b.now))) (row dn ds.now) }
+fn group_wildcard(group: MeasuredTree, b: MeasuredTree, q: Occurs, paper: &Paper) -> Verdict
+    ensures { mark_of result ≡ total_ok (total (tree_of group.entry)) q or_fails 113 and_then each_member (λ x. paper_judge paper.now x (as_any true (tree_of b.entry))) (items_of group.entry) }
 {
-    if !totals::total_within(group, q) {
+    if !totals::total_within(group.bytes, q) {
         return Verdict::Violation(Reason::TotalRange);
     }
     let mut seen = false;
-    let mut members = ds;
-    let mut left = dn;
-    while 0 < left {
-        let d = members;
-        let next = particle::next(d);
-        members = next;
-        left -= 1;
-        match by_kinds(d, false, &b[..], true, paper) {
+    for d in group.items() {
+        match by_kinds(d, false, b, true, paper) {
             Verdict::Ok => {}
             Verdict::Unknown => {
                 seen = true;
@@ -313,32 +241,20 @@ fn group_wildcard(group: &[u8], ds: &[u8], dn: usize, b: &[u8], q: Occurs, paper
 // Sequence against choice: pair times item count, then each member against the alternatives.
 #[cycle(restrict)]
 fn sequence_choice(
-    ds: &[u8],
-    dn: usize,
+    ds: MeasuredTrees,
     p: Occurs,
-    bs: &[u8],
-    bn: usize,
+    bs: MeasuredTrees,
     q: Occurs,
     paper: &Paper,
 ) -> Verdict
-    requires ds_run { Run dn ds.now }
-    requires ds_few { dn ≤ max_records }
-    requires bs_run { Run bn bs.now }
-    ensures { mark_of result ≡ total_ok (times_count p dn) q or_fails 116 and_then each_member (λ x. alternatives (paper_judge paper.now) 117 x (row bn bs.now)) (row dn ds.now) }
+    ensures { mark_of result ≡ total_ok (times_count p ds.entry.count) q or_fails 116 and_then each_member (λ x. alternatives (paper_judge paper.now) 117 x (row_of bs.entry)) (row_of ds.entry) }
 {
-    if !totals::total_ok(times_count(p, dn as u32), q) {
+    if !totals::total_ok(times_count(p, ds.count as u32), q) {
         return Verdict::Violation(Reason::SequenceTotal);
     }
     let mut seen = false;
-    let mut members = ds;
-    let mut left = dn;
-    while 0 < left {
-        let d = members;
-        let next = particle::next(d);
-        members = next;
-        left -= 1;
-        let reason = Reason::MemberAlternative;
-        match any_alternative(d, false, bs, bn, reason, paper) {
+    for d in ds {
+        match any_alternative(d, false, bs, Reason::MemberAlternative, paper) {
             Verdict::Ok => {}
             Verdict::Unknown => {
                 seen = true;

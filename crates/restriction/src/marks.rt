@@ -2,9 +2,8 @@
 // pass over a base group's items gives both.
 ghost use Rattle.std.specs.Prelude.{◌≡◌, true};
 ghost use Rattle.particle.specs.Occurs.{range_ok, exactly};
-ghost use Rattle.particle.specs.Tree.{element, tree};
-ghost use Rattle.particle.specs.Rows.{row};
-ghost use Rattle.particle.specs.Runs.{Run};
+ghost use Rattle.particle.specs.Tree.{element};
+ghost use Rattle.particle.specs.MeasuredTrees.{tree_of, row_of};
 ghost use Rattle.particle.specs.Empty.{emptiable};
 ghost use Rattle.rules.specs.Verdicts.{fails};
 ghost use Rattle.rules.specs.Combine.{◌or_fails◌, ◌and_then◌, combine_readings};
@@ -18,7 +17,7 @@ ghost use Rattle.restriction.specs.Marks.{BothMarks, standing, walked_on, came_t
 use crate::pairs::{base_once, base_range, exactly_one, kind_of};
 use crate::rows::left_over;
 use crate::same_kind;
-use particle::Occurs;
+use particle::{MeasuredTree, MeasuredTrees, Occurs};
 use verdicts::{Paper, Reason, Verdict};
 
 // The marks of an element counting once and with its own pair.
@@ -69,18 +68,15 @@ pub fn base_fails(range: Reason, wrapped: Verdict, second: Verdict) -> Marks
     }
 }
 
-// One step of a walk: m is the element's mark at the first tree of b, after which `left` trees of rest stand.
+// One step of a walk: m is the element's mark at b, after which the trees of rest stand.
 pub fn walk_on(
     walk: Standing,
     m: Verdict,
     lax: bool,
-    b: &[u8],
-    rest: &[u8],
-    left: usize,
+    b: MeasuredTree,
+    rest: MeasuredTrees,
 ) -> Standing
-    requires b_run { Run 1 b.now }
-    requires rest_run { Run left rest.now }
-    ensures { standing result ≡ walked_on (standing walk) (mark_of m) lax (emptiable (tree b.now)) (left_over (row left rest.now)) }
+    ensures { standing result ≡ walked_on (standing walk) (mark_of m) lax (emptiable (tree_of b.entry)) (left_over (row_of rest.entry)) }
 {
     let Standing::On = walk else {
         return walk;
@@ -90,14 +86,14 @@ pub fn walk_on(
             if lax {
                 return Standing::Ended(Verdict::Ok);
             }
-            Standing::Ended(left_over(rest, left))
+            Standing::Ended(left_over(rest))
         }
         Verdict::Unknown => Standing::Ended(Verdict::Unknown),
         Verdict::Violation(r) => {
             if lax {
                 return Standing::On;
             }
-            if particle::told_emptiable(b) {
+            if b.emptiable() {
                 return Standing::On;
             }
             Standing::Ended(Verdict::Violation(r))
@@ -154,23 +150,19 @@ pub fn walked(within: bool, once: Standing, own: Standing) -> Marks
     }
 }
 
-// Both marks of the element d against the first tree of b: counting once, and with its own pair p.
+// Both marks of the element d against the tree b: counting once, and with its own pair p.
 #[cycle(restrict)]
-fn element_marks(d: &[u8], leaf: u8, p: Occurs, b: &[u8], paper: &Paper) -> Marks
-    requires d_run { Run 1 d.now }
-    requires d_element { (tree d.now).head ≡ element leaf p }
-    requires b_run { Run 1 b.now }
-    ensures { BothMarks result (paper_judge paper.now (as_once true (tree d.now)) (tree b.now)) (paper_judge paper.now (tree d.now) (tree b.now)) }
+fn element_marks(d: MeasuredTree, leaf: u8, p: Occurs, b: MeasuredTree, paper: &Paper) -> Marks
+    requires { (tree_of d).head ≡ element leaf p }
+    ensures { BothMarks result (paper_judge paper.now (as_once true (tree_of d.entry)) (tree_of b.entry)) (paper_judge paper.now (tree_of d.entry) (tree_of b.entry)) }
 {
-    let br = particle::record_at(b);
+    let br = b.record();
     let q = base_range(br, false);
-    let bs = particle::items(b);
-    let bn = br.count as usize;
     match kind_of(br) {
         0 => with_element(leaf, p, br.leaf, q, paper),
         1 => with_wildcard(leaf, p, br.leaf, q, paper),
-        2 => sequence_marks(d, leaf, p, bs, bn, q, paper),
-        3 => choice_marks(d, leaf, p, bs, bn, q, paper),
+        2 => sequence_marks(d, leaf, p, b.items(), q, paper),
+        3 => choice_marks(d, leaf, p, b.items(), q, paper),
         _ => Marks {
             once: Verdict::Unknown,
             own: Verdict::Unknown,
@@ -182,39 +174,31 @@ fn element_marks(d: &[u8], leaf: u8, p: Occurs, b: &[u8], paper: &Paper) -> Mark
 // the mark of the element that counts once, and the wrapped reading of the other.
 #[cycle(restrict)]
 pub fn sequence_marks(
-    d: &[u8],
+    d: MeasuredTree,
     leaf: u8,
     p: Occurs,
-    bs: &[u8],
-    bn: usize,
+    bs: MeasuredTrees,
     q: Occurs,
     paper: &Paper,
 ) -> Marks
-    requires d_run { Run 1 d.now }
-    requires d_element { (tree d.now).head ≡ element leaf p }
-    requires bs_run { Run bn bs.now }
-    ensures { BothMarks result (sequence_once (paper_judge paper.now) q (as_once true (tree d.now)) (row bn bs.now)) (sequence_mark (paper_judge paper.now) p q (as_once true (tree d.now)) (tree d.now) (row bn bs.now)) }
+    requires { (tree_of d).head ≡ element leaf p }
+    ensures { BothMarks result (sequence_once (paper_judge paper.now) q (as_once true (tree_of d.entry)) (row_of bs.entry)) (sequence_mark (paper_judge paper.now) p q (as_once true (tree_of d.entry)) (tree_of d.entry) (row_of bs.entry)) }
 {
     let sequence_once = base_once(q, Reason::SequenceRequired);
     let Verdict::Ok = sequence_once else {
-        let wrapped = same_kind(d, 1, true, p, bs, bn, q, false, paper);
+        let wrapped = same_kind(d.alone(), true, p, bs, q, false, paper);
         return base_fails(Reason::SequenceRange, wrapped, sequence_once);
     };
     let within = particle::range_ok(p, q);
     let mut once = Standing::On;
     let mut own = Standing::On;
-    let mut bitems = bs;
-    let mut left = bn;
-    while 0 < left {
-        let b = bitems;
-        let next = particle::next(b);
-        bitems = next;
-        left -= 1;
+    let mut left = bs;
+    while let Some(b) = left.next() {
         let item = element_marks(d, leaf, p, b, paper);
         let item_once = item.once;
         let item_own = item.own;
-        once = walk_on(once, item_once, false, b, bitems, left);
-        own = walk_on(own, item_own, false, b, bitems, left);
+        once = walk_on(once, item_once, false, b, left);
+        own = walk_on(own, item_own, false, b, left);
         if settled(within, once, own) {
             return walked(within, once, own);
         }
@@ -226,39 +210,31 @@ pub fn sequence_marks(
 // reading, and the element that counts once, go on after an undecided one.
 #[cycle(restrict)]
 pub fn choice_marks(
-    d: &[u8],
+    d: MeasuredTree,
     leaf: u8,
     p: Occurs,
-    bs: &[u8],
-    bn: usize,
+    bs: MeasuredTrees,
     q: Occurs,
     paper: &Paper,
 ) -> Marks
-    requires d_run { Run 1 d.now }
-    requires d_element { (tree d.now).head ≡ element leaf p }
-    requires bs_run { Run bn bs.now }
-    ensures { BothMarks result (choice_once (paper_judge paper.now) q (as_once true (tree d.now)) (row bn bs.now)) (choice_mark (paper_judge paper.now) p q (as_once true (tree d.now)) (tree d.now) (row bn bs.now)) }
+    requires { (tree_of d).head ≡ element leaf p }
+    ensures { BothMarks result (choice_once (paper_judge paper.now) q (as_once true (tree_of d.entry)) (row_of bs.entry)) (choice_mark (paper_judge paper.now) p q (as_once true (tree_of d.entry)) (tree_of d.entry) (row_of bs.entry)) }
 {
     let choice_once = base_once(q, Reason::ChoiceRequired);
     let Verdict::Ok = choice_once else {
-        let wrapped = same_kind(d, 1, true, p, bs, bn, q, true, paper);
+        let wrapped = same_kind(d.alone(), true, p, bs, q, true, paper);
         return base_fails(Reason::ChoiceRange, wrapped, choice_once);
     };
     let within = particle::range_ok(p, q);
     let mut first = Standing::On;
     let mut once = Verdict::Violation(Reason::NotAllowed);
     let mut own = Verdict::Violation(Reason::NoAlternative);
-    let mut bitems = bs;
-    let mut left = bn;
-    while 0 < left {
-        let b = bitems;
-        let next = particle::next(b);
-        bitems = next;
-        left -= 1;
+    let mut left = bs;
+    while let Some(b) = left.next() {
         let item = element_marks(d, leaf, p, b, paper);
         let item_once = item.once;
         let item_own = item.own;
-        first = walk_on(first, item_once, true, b, bitems, left);
+        first = walk_on(first, item_once, true, b, left);
         once = verdicts::combine_readings(once, item_once);
         own = verdicts::combine_readings(own, item_own);
         if let Verdict::Ok = once {

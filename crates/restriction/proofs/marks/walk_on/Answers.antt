@@ -8,8 +8,8 @@ returns-then-lax c = search lax_passes
 pub returns-then-lax-2 : goal.returns-then-lax-2
 returns-then-lax-2 c = search lax_skips
 
-pub returns-then-told_emptiable : goal.returns-then-told_emptiable
-returns-then-told_emptiable c = search emptiable_skips
+pub returns-then-emptiable : goal.returns-then-emptiable
+returns-then-emptiable c = search emptiable_skips
 
 pub returns-else-lax : goal.returns-else-lax
 returns-else-lax c = search over_passes
@@ -17,5 +17,5 @@ returns-else-lax c = search over_passes
 pub returns-in-Unknown : goal.returns-in-Unknown
 returns-in-Unknown c = search open_ends
 
-pub returns-else-told_emptiable : goal.returns-else-told_emptiable
-returns-else-told_emptiable c = search required_ends
+pub returns-else-emptiable : goal.returns-else-emptiable
+returns-else-emptiable c = search required_ends

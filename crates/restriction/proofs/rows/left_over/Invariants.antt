@@ -2,8 +2,5 @@
 use Rattle.restriction.proofs.LeftOver.{LeftOver}
 use Rattle.restriction.proofs.rows.left_over.Given as goal
 
-abbrev pub invariant-loop-j : goal.invariant-loop-j
-invariant-loop-j l = LeftOver l.bn l.bs l.bitems l.j
-
-abbrev pub decreases-loop-j : goal.decreases-loop-j
-decreases-loop-j l = l.j
+abbrev pub invariant-loop-b : goal.invariant-loop-b
+invariant-loop-b l = LeftOver l.bs.count l.bs.bytes.now l.b-iterator.bytes.now l.b-iterator.count
