@@ -1,5 +1,5 @@
 -- Subtrees, and rows of them: which trees they are, and how a row goes on. Assumes nothing: these are definitions.
-use Rattle.std.specs.Prelude.{◌≡◌, suc, Option, None, Some}
+use Rattle.std.specs.Prelude.{◌≡◌, ◌+◌, Option, None, Some}
 use Rattle.particle.specs.declared.subtrees.Subtree.{Subtree}
 use Rattle.particle.specs.declared.subtrees.Subtrees.{Subtrees}
 use Rattle.particle.specs.declared.measured_trees.MeasuredTrees.{MeasuredTrees}
@@ -22,7 +22,7 @@ row_of s = row s.count s.bytes.now
 -- a step gives the first subtree and leaves the others, or gives nothing where none is left
 abbrev pub GivesFirst : Subtrees → Option Subtree → Subtrees → Type 0
 GivesFirst old None new = (old.count ≡ 0) × (new.count ≡ 0)
-GivesFirst old (Some first) new = (first.bytes.now ≡ old.bytes.now) × (new.bytes.now ≡ later_part old.bytes.now) × (old.count ≡ suc new.count)
+GivesFirst old (Some first) new = (first.bytes.now ≡ old.bytes.now) × (new.bytes.now ≡ later_part old.bytes.now) × (old.count ≡ new.count + 1)
 
 -- a row of measured trees is the same row
 abbrev pub SameRow : MeasuredTrees → Subtrees → Type 0
