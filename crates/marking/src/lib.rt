@@ -4,6 +4,8 @@
 mod display;
 
 ghost use Rattle.std.specs.Prelude.{◌≡◌, ◌*◌, ◌≤◌};
+ghost use Rattle.particle.specs.Occurs.{is_zero};
+ghost use Rattle.particle.specs.Tree.{pair_of};
 ghost use Rattle.particle.specs.MeasuredTrees.{tree_of};
 ghost use Rattle.rules.specs.Mark.{early_pass, mark_tidied};
 ghost use Rattle.verdicts.specs.Paper.{paper_leaves, paper_tables};
@@ -47,11 +49,18 @@ impl From<Verdict> for MarkAnswer {
     }
 }
 
+// Whether the root of t has maximum 0.
+fn never(t: MeasuredTree) -> bool
+    ensures { result ≡ is_zero (pair_of (tree_of t.entry).head).max }
+{
+    particle::never(t.record())
+}
+
 // The early pass: the derived root has maximum 0, and the base root has maximum 0 or is emptiable.
 fn early_pass(d: MeasuredTree, b: MeasuredTree) -> bool
     ensures { result ≡ early_pass (tree_of d.entry) (tree_of b.entry) }
 {
-    particle::never(d.record()) && (particle::never(b.record()) || b.emptiable())
+    never(d) && (never(b) || b.emptiable())
 }
 
 // The mark of two tidied trees, by a paper's leaves and tables.

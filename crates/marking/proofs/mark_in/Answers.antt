@@ -21,11 +21,11 @@ measure-requires-clause-row c = search tidied_row
 pub measure-requires-2-clause-row : goal.measure-requires-2-clause-row
 measure-requires-2-clause-row c = search tidied_row
 
-pub mark_tidied-requires-clause-d_run : goal.mark_tidied-requires-clause-d_run
-mark_tidied-requires-clause-d_run c = (prepared _ c.normalize_in-d.ensures {s = c.measure.new.t} c.measure.auto.t c.measure.ensures).run
+pub invariant_of-derived : goal.invariant_of-derived
+invariant_of-derived c = record { run = (prepared _ c.normalize_in-d.ensures {s = c.measure.new.t} c.measure.auto.t c.measure.ensures).run }
 
-pub mark_tidied-requires-clause-b_run : goal.mark_tidied-requires-clause-b_run
-mark_tidied-requires-clause-b_run c = (prepared _ c.normalize_in-b.ensures {s = c.measure-2.new.t} c.measure-2.auto.t c.measure-2.ensures).run
+pub invariant_of-base : goal.invariant_of-base
+invariant_of-base c = record { run = (prepared _ c.normalize_in-b.ensures {s = c.measure-2.new.t} c.measure-2.auto.t c.measure-2.ensures).run }
 
 pub returns : goal.returns
 returns c =
