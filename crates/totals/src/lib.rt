@@ -56,18 +56,16 @@ fn sum_of(t: &[u8], n: usize, measured: bool) -> TotalRange
 {
     let mut sum = ranges::zero();
     let mut items = t;
-    let mut to_add = n;
-    while 0 < to_add {
+    for _ in 0..n {
         let item = items;
-        let next = particle::after(item, measured);
-        items = next;
-        to_add -= 1;
+        items = particle::after(item, measured);
         let head = particle::record_at(item);
-        if head.kind < particle::SEQUENCE {
-            sum = sum + TotalRange::from(particle::range(head));
+        let total = if head.kind < particle::SEQUENCE {
+            TotalRange::from(particle::range(head))
         } else {
-            sum = sum + effective_total_range(item, measured);
-        }
+            effective_total_range(item, measured)
+        };
+        sum = sum + total;
     }
     sum
 }
@@ -84,18 +82,16 @@ fn span_of(t: &[u8], n: usize, measured: bool) -> TotalRange
     }
     let mut span = effective_total_range(t, measured);
     let mut items = particle::after(t, measured);
-    let mut others = n - 1;
-    while 0 < others {
+    for _ in 1..n {
         let item = items;
-        let next = particle::after(item, measured);
-        items = next;
-        others -= 1;
+        items = particle::after(item, measured);
         let head = particle::record_at(item);
-        if head.kind < particle::SEQUENCE {
-            span = span.span(TotalRange::from(particle::range(head)));
+        let total = if head.kind < particle::SEQUENCE {
+            TotalRange::from(particle::range(head))
         } else {
-            span = span.span(effective_total_range(item, measured));
-        }
+            effective_total_range(item, measured)
+        };
+        span = span.span(total);
     }
     span
 }

@@ -1,4 +1,6 @@
 -- `totals::effective_total_range`, `sum_of` and `span_of` meet their contracts. A call goes to a shorter part, or from a row to one of its trees. Assumes nothing.
+use mathlib.Core.Path.{◌≡◌, ◌∙◌}
+use Prim.Native.Nat.{◌+◌, ◌-◌, ◌≤◌, ◌<◌}
 use native.Mathlib.Nat.{pos_of_ne-zero}
 use native.Mathlib.Omega.{arith}
 use Rattle.particle.proofs.Laws.{some_bytes}
@@ -6,7 +8,10 @@ use Rattle.particle.proofs.Runs.{first_if, rest_if, items_if}
 use Rattle.particle.proofs.Falls.{first_row, part_first, part_falls, items_trees, items_fall}
 use Rattle.totals.proofs.FirstTotal.{leaf_total, choice_total, ordered_total}
 use Rattle.totals.proofs.Gathered.{sums, spans, span_none, sum_start, span_start, leaf_item, gathered_next, gathered_end}
+use Rattle.particle.specs.Tree.{tree}
+use Rattle.totals.specs.Total.{total}
 use Rattle.totals.proofs.+total.Goals as goal
+use Rattle.totals.proofs.+total.Goals.{span_of-then-head-lt-SEQUENCE, span_of-else-head-lt-SEQUENCE, sum_of-then-head-lt-SEQUENCE, sum_of-else-head-lt-SEQUENCE}
 
 pub effective_total_range-record_at-head-requires : goal.effective_total_range-record_at-head-requires
 effective_total_range-record_at-head-requires t c = search (some_bytes {n = 0})
@@ -35,44 +40,66 @@ span_of-effective_total_range-span-requires t c = (omega arith, (search first_ro
 pub span_of-after-items-requires : goal.span_of-after-items-requires
 span_of-after-items-requires t c = record { row = search first_row; run_if = search (first_if {m = 0}, pos_of_ne-zero) }
 
-pub span_of-loop-others-init : goal.span_of-loop-others-init
-span_of-loop-others-init t c = search (span_start, rest_if {m = 0}, pos_of_ne-zero)
+pub span_of-loop-init : goal.span_of-loop-init
+span_of-loop-init t c = search (span_start, rest_if {m = 0}, pos_of_ne-zero)
 
-pub span_of-after-next-requires : goal.span_of-after-next-requires
-span_of-after-next-requires t c = record { row = search part_first; run_if = search first_if }
+pub span_of-after-items-requires-in-loop : goal.span_of-after-items-requires-in-loop
+span_of-after-items-requires-in-loop t c =
+    let some : 0 < c.args.n - c.loop.counter = omega arith in
+    record { row = search part_first; run_if = search first_if }
 
 pub span_of-record_at-head-requires : goal.span_of-record_at-head-requires
-span_of-record_at-head-requires t c = search (some_bytes {n = 0}, part_first)
+span_of-record_at-head-requires t c =
+    let some : 0 < c.args.n - c.loop.counter = omega arith in
+    search (some_bytes {n = 0}, part_first)
 
-pub span_of-loop-others-preserved-then-head-lt-SEQUENCE : goal.span_of-loop-others-preserved-then-head-lt-SEQUENCE
-span_of-loop-others-preserved-then-head-lt-SEQUENCE t c = search (gathered_next spans, leaf_item, rest_if)
+pub span_of-effective_total_range-total-requires : goal.span_of-effective_total_range-total-requires
+span_of-effective_total_range-total-requires t c =
+    let some : 0 < c.args.n - c.loop.counter = omega arith in
+    (search part_falls, (search part_first, search first_if))
 
-pub span_of-effective_total_range-requires : goal.span_of-effective_total_range-requires
-span_of-effective_total_range-requires t c = (search part_falls, (search part_first, search first_if))
-
-pub span_of-loop-others-preserved : goal.span_of-loop-others-preserved
-span_of-loop-others-preserved t c = search (gathered_next spans, rest_if)
+pub span_of-loop-preserved : goal.span_of-loop-preserved
+span_of-loop-preserved t c =
+    let some : 0 < c.args.n - c.loop.counter = omega arith in
+    let one_less : c.args.n - (c.loop.counter + 1) ≡ c.args.n - c.loop.counter - 1 = omega arith in
+    let each : c.if-head-lt-SEQUENCE.total ≡ total (tree c.loop.items.now) =
+    elim c.if-head-lt-SEQUENCE.branch [ span_of-then-head-lt-SEQUENCE w ↦ w.total-is ∙ (search leaf_item) | span_of-else-head-lt-SEQUENCE w ↦ w.total-is ∙ w.effective_total_range-total.ensures ] in
+    rw one_less (search (gathered_next spans, rest_if))
 
 pub span_of-returns : goal.span_of-returns
-span_of-returns t c = search (gathered_end spans)
+span_of-returns t c =
+    let none : c.args.n - c.loop.counter ≤ 0 = omega arith in
+    search (gathered_end spans)
 
-pub sum_of-loop-to_add-init : goal.sum_of-loop-to_add-init
-sum_of-loop-to_add-init t c = search sum_start
+pub sum_of-loop-init : goal.sum_of-loop-init
+sum_of-loop-init t c =
+    let all : c.args.n - 0 ≡ c.args.n = omega arith in
+    rw all (search sum_start)
 
-pub sum_of-after-next-requires : goal.sum_of-after-next-requires
-sum_of-after-next-requires t c = record { row = search part_first; run_if = search first_if }
+pub sum_of-after-items-requires : goal.sum_of-after-items-requires
+sum_of-after-items-requires t c =
+    let some : 0 < c.args.n - c.loop.counter = omega arith in
+    record { row = search part_first; run_if = search first_if }
 
 pub sum_of-record_at-head-requires : goal.sum_of-record_at-head-requires
-sum_of-record_at-head-requires t c = search (some_bytes {n = 0}, part_first)
+sum_of-record_at-head-requires t c =
+    let some : 0 < c.args.n - c.loop.counter = omega arith in
+    search (some_bytes {n = 0}, part_first)
 
-pub sum_of-loop-to_add-preserved-then-head-lt-SEQUENCE : goal.sum_of-loop-to_add-preserved-then-head-lt-SEQUENCE
-sum_of-loop-to_add-preserved-then-head-lt-SEQUENCE t c = search (gathered_next sums, leaf_item, rest_if)
+pub sum_of-effective_total_range-total-requires : goal.sum_of-effective_total_range-total-requires
+sum_of-effective_total_range-total-requires t c =
+    let some : 0 < c.args.n - c.loop.counter = omega arith in
+    (search part_falls, (search part_first, search first_if))
 
-pub sum_of-effective_total_range-requires : goal.sum_of-effective_total_range-requires
-sum_of-effective_total_range-requires t c = (search part_falls, (search part_first, search first_if))
-
-pub sum_of-loop-to_add-preserved : goal.sum_of-loop-to_add-preserved
-sum_of-loop-to_add-preserved t c = search (gathered_next sums, rest_if)
+pub sum_of-loop-preserved : goal.sum_of-loop-preserved
+sum_of-loop-preserved t c =
+    let some : 0 < c.args.n - c.loop.counter = omega arith in
+    let one_less : c.args.n - (c.loop.counter + 1) ≡ c.args.n - c.loop.counter - 1 = omega arith in
+    let each : c.if-head-lt-SEQUENCE.total ≡ total (tree c.loop.items.now) =
+    elim c.if-head-lt-SEQUENCE.branch [ sum_of-then-head-lt-SEQUENCE w ↦ w.total-is ∙ (search leaf_item) | sum_of-else-head-lt-SEQUENCE w ↦ w.total-is ∙ w.effective_total_range-total.ensures ] in
+    rw one_less (search (gathered_next sums, rest_if))
 
 pub sum_of-returns : goal.sum_of-returns
-sum_of-returns t c = search (gathered_end sums)
+sum_of-returns t c =
+    let none : c.args.n - c.loop.counter ≤ 0 = omega arith in
+    search (gathered_end sums)
