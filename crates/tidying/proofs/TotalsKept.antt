@@ -4,13 +4,12 @@ use mathlib.Core.List.{List, [], ◌∷◌, ◌++◌}
 use mathlib.Core.Path.{◌≡◌, refl, ap, sym, ◌∙◌}
 use Prim.Native.Nat.{ℕ, ◌*◌, ◌≤◌}
 use native.Mathlib.Nat.{le_refl, le_trans, le_of_eq, le_antisymm, zero-mul, mul-le-mul_left}
-use native.Mathlib.Omega.{arith}
 use Rattle.particle.specs.declared.MaxOccurs.{MaxOccurs}
 use Rattle.particle.specs.declared.MaxOccurs.TheVariants.{Bounded, Unbounded}
 use Rattle.particle.specs.declared.Occurs.{Occurs}
-use Rattle.particle.specs.Occurs.{exactly, is_once}
+use Rattle.particle.specs.Occurs.{is_once}
 use Rattle.particle.specs.Tree.{Head, element, wildcard, sequence, choice, all, Items, none, item, Particle, pair_of, fold}
-use Rattle.totals.specs.Exact.{mul_max, mul_range, sum, span, exact_from, exact_total}
+use Rattle.totals.specs.Exact.{add_max, max_max, mul_max, mul_range, sum, span, exact_from, exact_total}
 use Rattle.totals.specs.Total.{cut_max, total}
 use Rattle.language.specs.Premises.{Every, BelowRoot, NoEmptyChoice, Ordered, NoZeroMaximum}
 use Rattle.language.proofs.Premises.{every_both}
@@ -20,7 +19,7 @@ use Rattle.tidying.specs.TidyTree.{Group}
 use Rattle.tidying.proofs.Steps.{group_cases, splices_cases, takes_cases, zero_is, zero_min}
 use Rattle.tidying.proofs.Premises.{Plain, tidy_heads, tidy_ordered, tidy_plain}
 use Rattle.tidying.proofs.FoldsKept.{StepsKept, tidy_keeps}
-use Rattle.tidying.proofs.Ranges.{same_range, once_range, alone_range, most, span_most, sum_max_after, most_after, sum_min_after, span_min_after, sum_max_without, most_without, span_min_without, sum_min_without, span_min_lesser, sum_joined, most_joined, span_min_joined}
+use Rattle.tidying.proofs.Ranges.{same_range, Joins, all_max, joins_sum, joins_span, max_after, max_without, max_joined, sum_max, span_max, Least, sum_min_after, least_sum, least_span, sum_min_joined, span_min_joined, span_min_first, once_range, alone_range}
 
 -- The steps that keep a range whole ----------------------------------------------------------
 
@@ -37,9 +36,11 @@ paired ts = takes_cases (λ (g h : Head). exact_from g (exact_from h ts ∷ []) 
 
 -- The maximum ---------------------------------------------------------------------------------
 
--- a group's maximum comes of its items' maxima
-group_max : (g : Head) → Group g → (xs ys : List Occurs) → (sum xs).max ≡ (sum ys).max → most xs ≡ most ys → (exact_from g xs).max ≡ (exact_from g ys).max
-group_max g s xs ys e f = group_cases (λ (g : Head). (exact_from g xs).max ≡ (exact_from g ys).max) (λ p. ap (mul_max p.max) e) (λ p. ap (mul_max p.max) (span_most xs ∙ (f ∙ sym (span_most ys)))) g s
+-- a group's maximum comes of its items' maxima, joined as they are in a sum or in a span
+group_max : (g : Head) → Group g → (xs ys : List Occurs) → ((join : MaxOccurs → MaxOccurs → MaxOccurs) → Joins join → all_max join xs ≡ all_max join ys) → (exact_from g xs).max ≡ (exact_from g ys).max
+group_max g s xs ys e = group_cases (λ (g : Head). (exact_from g xs).max ≡ (exact_from g ys).max)
+    (λ p. ap (mul_max p.max) (sum_max xs ∙ (e add_max joins_sum ∙ sym (sum_max ys))))
+    (λ p. ap (mul_max p.max) (span_max xs ∙ (e max_max joins_span ∙ sym (span_max ys)))) g s
 
 never_mul : (m : MaxOccurs) → mul_max (Bounded 0) m ≡ Bounded 0
 never_mul (Bounded n) = ap Bounded (zero-mul n)
@@ -55,16 +56,15 @@ never_max (all p) ts e = ap (λ (m : MaxOccurs). mul_max m (sum ts).max) e ∙ n
 
 -- an item of the same maximum
 tidied_max : (g : Head) → Group g → (before : List Occurs) (a b : Occurs) (after : List Occurs) → a.max ≡ b.max → (exact_from g (before ++ a ∷ after)).max ≡ (exact_from g (before ++ b ∷ after)).max
-unfolding sum
-tidied_max g s before a b after e = group_max g s (before ++ a ∷ after) (before ++ b ∷ after) (sum_max_after before (a ∷ after) (b ∷ after) (rw e)) (most_after before (a ∷ after) (b ∷ after) (rw e))
+tidied_max g s before a b after e = group_max g s (before ++ a ∷ after) (before ++ b ∷ after) (λ join J. max_after J before (a ∷ after) (b ∷ after) (rw e))
 
 dropped_max : (g : Head) → Group g → (before : List Occurs) (t : Occurs) (after : List Occurs) → t.max ≡ Bounded 0 → (exact_from g (before ++ after)).max ≡ (exact_from g (before ++ t ∷ after)).max
-dropped_max g s before t after e = group_max g s (before ++ after) (before ++ t ∷ after) (sum_max_after before after (t ∷ after) (sum_max_without t after e)) (most_after before after (t ∷ after) (most_without t after e))
+dropped_max g s before t after e = group_max g s (before ++ after) (before ++ t ∷ after) (λ join J. max_after J before after (t ∷ after) (max_without J t after e))
 
 spliced_max : (ts : List Occurs) (g h : Head) → splices g h ≡ true → (before after : List Occurs) → (exact_from g (before ++ (ts ++ after))).max ≡ (exact_from g (before ++ exact_from h ts ∷ after)).max
 spliced_max ts = splices_cases (λ (g h : Head). (before after : List Occurs) → (exact_from g (before ++ (ts ++ after))).max ≡ (exact_from g (before ++ exact_from h ts ∷ after)).max)
-    (λ q p o before after. rw (once_total p (sum ts) o) (ap (mul_max q.max) (sum_max_after before (ts ++ after) (sum ts ∷ after) (ap (λ (t : Occurs). t.max) (sum_joined ts after)))))
-    (λ q p o before after. rw (once_total p (span ts) o, span_most (before ++ (ts ++ after))) (ap (mul_max q.max) (most_after before (ts ++ after) (span ts ∷ after) (most_joined ts after) ∙ sym (span_most (before ++ span ts ∷ after)))))
+    (λ q p o before after. rw (once_total p (sum ts) o, sum_max (before ++ (ts ++ after))) (ap (mul_max q.max) (max_after joins_sum before (ts ++ after) (sum ts ∷ after) (max_joined joins_sum (sum ts) ts after (sum_max ts)) ∙ sym (sum_max (before ++ sum ts ∷ after)))))
+    (λ q p o before after. rw (once_total p (span ts) o, span_max (before ++ (ts ++ after))) (ap (mul_max q.max) (max_after joins_span before (ts ++ after) (span ts ∷ after) (max_joined joins_span (span ts) ts after (span_max ts)) ∙ sym (span_max (before ++ span ts ∷ after)))))
 
 -- of the records nothing is asked
 abbrev Any : Head → Items → Type 0
@@ -83,9 +83,9 @@ max_kept = record {
 
 -- The minimum ---------------------------------------------------------------------------------
 
--- a group's minimum comes of its items' minima
-group_min : (g : Head) → Group g → (xs ys : List Occurs) → (sum ys).min ≤ (sum xs).min → (span ys).min ≤ (span xs).min → (exact_from g ys).min ≤ (exact_from g xs).min
-group_min g s xs ys a b = group_cases (λ (g : Head). (exact_from g ys).min ≤ (exact_from g xs).min) (λ p. mul-le-mul_left p.min a) (λ p. mul-le-mul_left p.min b) g s
+-- a group's minimum comes of its items' minima, by a sum or by a span
+group_min : (g : Head) → Group g → (xs ys : List Occurs) → ((least : List Occurs → ℕ) → Least least → least ys ≤ least xs) → (exact_from g ys).min ≤ (exact_from g xs).min
+group_min g s xs ys l = group_cases (λ (g : Head). (exact_from g ys).min ≤ (exact_from g xs).min) (λ p. mul-le-mul_left p.min (l _ least_sum)) (λ p. mul-le-mul_left p.min (l _ least_span)) g s
 
 -- the total of a record of minimum 0
 pub never_min : (h : Head) (ts : List Occurs) → (pair_of h).min ≡ 0 → (exact_from h ts).min ≡ 0
@@ -97,25 +97,16 @@ never_min (all p) ts e = ap (λ (n : ℕ). n * (sum ts).min) e ∙ zero-mul (sum
 
 -- an item of no lesser minimum
 tidied_min : (g : Head) → Group g → (before : List Occurs) (a b : Occurs) (after : List Occurs) → b.min ≤ a.min → (exact_from g (before ++ b ∷ after)).min ≤ (exact_from g (before ++ a ∷ after)).min
-unfolding sum
-tidied_min g s before a b after l = group_min g s (before ++ a ∷ after) (before ++ b ∷ after) (sum_min_after before (a ∷ after) (b ∷ after) (omega arith)) (span_min_after before (a ∷ after) b after (span_min_lesser a b after l))
+tidied_min g s before a b after l = group_min g s (before ++ a ∷ after) (before ++ b ∷ after) (λ least L. L.after before (a ∷ after) b after (L.lesser a b after l))
 
 dropped_min : (g : Head) → Group g → (before : List Occurs) (t : Occurs) (after : List Occurs) → t.min ≡ 0 → (exact_from g (before ++ t ∷ after)).min ≤ (exact_from g (before ++ after)).min
-dropped_min g s before t after e = group_min g s (before ++ after) (before ++ t ∷ after) (sum_min_after before after (t ∷ after) (sum_min_without t after e)) (span_min_after before after t after (span_min_without t after e))
+dropped_min g s before t after e = group_min g s (before ++ after) (before ++ t ∷ after) (λ least L. L.after before after t after (L.without t after e))
 
--- the items of a choice, in its place; where there are none, its minimum was 0
-span_first : (ts ys : List Occurs) → (span (span ts ∷ ys)).min ≤ (span (ts ++ ys)).min
-unfolding span
-span_first [] ys = span_min_without (exactly 0) ys refl
-span_first (t ∷ ts) ys = le_of_eq (sym (span_min_joined t ts ys))
-
-sum_first : (ts ys : List Occurs) → (sum (ts ++ ys)).min ≡ (sum (sum ts ∷ ys)).min
-sum_first ts ys = ap (λ (t : Occurs). t.min) (sum_joined ts ys)
-
+-- the items of an item of the group's own kind, in its place
 spliced_min : (ts : List Occurs) (g h : Head) → splices g h ≡ true → (before after : List Occurs) → (exact_from g (before ++ exact_from h ts ∷ after)).min ≤ (exact_from g (before ++ (ts ++ after))).min
 spliced_min ts = splices_cases (λ (g h : Head). (before after : List Occurs) → (exact_from g (before ++ exact_from h ts ∷ after)).min ≤ (exact_from g (before ++ (ts ++ after))).min)
-    (λ q p o before after. rw (once_total p (sum ts) o) (mul-le-mul_left q.min (sum_min_after before (ts ++ after) (sum ts ∷ after) (le_of_eq (sym (sum_first ts after))))))
-    (λ q p o before after. rw (once_total p (span ts) o) (mul-le-mul_left q.min (span_min_after before (ts ++ after) (span ts) after (span_first ts after))))
+    (λ q p o before after. rw (once_total p (sum ts) o) (mul-le-mul_left q.min (least_sum.after before (ts ++ after) (sum ts) after (le_of_eq (sym (sum_min_joined ts after))))))
+    (λ q p o before after. rw (once_total p (span ts) o) (mul-le-mul_left q.min (least_span.after before (ts ++ after) (span ts) after (span_min_first ts after))))
 
 -- and where there are some, the minimum stays
 spliced_some : (k : Items) (g h : Head) → splices g h ≡ true → NoEmptyChoice h k → (before after : List Occurs)
@@ -123,7 +114,7 @@ spliced_some : (k : Items) (g h : Head) → splices g h ≡ true → NoEmptyChoi
 unfolding fold
 spliced_some k = splices_cases
     (λ (g h : Head). NoEmptyChoice h k → (before after : List Occurs) → (exact_from g (before ++ (fold exact_from k ++ after))).min ≤ (exact_from g (before ++ exact_from h (fold exact_from k) ∷ after)).min)
-    (λ q p o n before after. rw (once_total p (sum (fold exact_from k)) o) (mul-le-mul_left q.min (sum_min_after before (sum (fold exact_from k) ∷ after) (fold exact_from k ++ after) (le_of_eq (sum_first (fold exact_from k) after)))))
+    (λ q p o n before after. rw (once_total p (sum (fold exact_from k)) o) (mul-le-mul_left q.min (sum_min_after before (sum (fold exact_from k) ∷ after) (fold exact_from k ++ after) (le_of_eq (sum_min_joined (fold exact_from k) after)))))
     (λ q p o n before after. rw (once_total p (span (fold exact_from k)) o) (mul-le-mul_left q.min (some k n before after)))
   where
     some : (k : Items) → ¬ (k ≡ none) → (before after : List Occurs) → (span (before ++ (fold exact_from k ++ after))).min ≤ (span (before ++ span (fold exact_from k) ∷ after)).min
@@ -131,7 +122,7 @@ spliced_some k = splices_cases
     some (item h k r) n before after =
         let t = exact_from h (fold exact_from k) in
         let ts = fold exact_from r in
-        span_min_after before (span (t ∷ ts) ∷ after) t (ts ++ after) (le_of_eq (span_min_joined t ts after))
+        least_span.after before (span (t ∷ ts) ∷ after) t (ts ++ after) (le_of_eq (span_min_joined t ts after))
 
 min_rises : StepsKept Ordered exact_from (λ a b. b.min ≤ a.min)
 min_rises = record {
