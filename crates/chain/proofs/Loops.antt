@@ -1,7 +1,8 @@
 -- What the loops over the levels keep: what is left of their counts and of their trees. Assumes nothing.
 use Rattle.std.specs.Prelude.{Result, Ok, Err}
+use Rattle.std.specs.Int.{from_bool}
 use mathlib.Core.Path.{◌≡◌, refl, ap, sym, ◌∙◌}
-use mathlib.Core.Bool.{Bool, true, false, cond}
+use mathlib.Core.Bool.{Bool, true, false, not, cond}
 use mathlib.Core.List.{List, [], ◌∷◌}
 use Prim.Native.Nat.{ℕ, zero, suc, ◌+◌, ◌*◌, ◌-◌, ◌≤◌, ◌<◌}
 use native.Mathlib.Omega.{arith}
@@ -63,37 +64,28 @@ pub record Counted (c : List ℕ) (n trees records i : ℕ) : Type 0 where
   pub trees_left : present_in (counts c) ≡ trees + present_in (counts_from c n i)
   pub records_left : sum (counts c) ≡ records + sum (counts_from c n i)
 
-present_some : (k : ℕ) (ns : List ℕ) → (k ≡ 0 → ⊥) → present_in (k ∷ ns) ≡ suc (present_in ns)
+-- a level of k records has m trees
+present_cons : (k : ℕ) (ns : List ℕ) {m : ℕ} → m ≡ from_bool (not (eqb k 0)) → (present_in (k ∷ ns) ≡ m + present_in ns) × (m ≤ 1)
 unfolding present_in
-present_some zero ns z = absurd (z refl)
-present_some (suc k) ns z = refl
+present_cons zero ns e = (omega arith, omega arith)
+present_cons (suc k) ns e =
+    let f = rw (ne_eqb (suc k) 0 (λ z. omega arith)) at e in
+    (omega arith, omega arith)
 
 module _ {c : List ℕ} {n trees records i : ℕ} (v : Counted c n trees records i) where
-  -- the level i has k records
-  module _ (h : i < n) {k : ℕ} (e : k ≡ count_in (drop (count_at i) c)) (low : k < 65536) where
-    pub absent_counted : k ≡ 0 → Counted c n trees (records + k) (i + 1)
-    unfolding sum present_in
-    absent_counted z =
-        let turn = counts_turn c n i h e in
-        record {
-          within = omega arith;
-          few = omega (arith, v.few);
-          small = omega (arith, v.small);
-          trees_left = v.trees_left ∙ ap (λ (ns : List ℕ). trees + present_in ns) (rw z at turn);
-          records_left = omega (arith, v.records_left, ap sum turn);
-        }
-
-    pub present_counted : (k ≡ 0 → ⊥) → Counted c n (trees + 1) (records + k) (i + 1)
-    unfolding sum
-    present_counted z =
-        let turn = counts_turn c n i h e in
-        record {
-          within = omega arith;
-          few = omega (arith, v.few);
-          small = omega (arith, v.small);
-          trees_left = omega (arith, v.trees_left, ap present_in turn, present_some k (counts_from c n (i + 1)) z);
-          records_left = omega (arith, v.records_left, ap sum turn);
-        }
+  -- the level i has k records, and so m trees
+  pub counted_next : i < n → {k : ℕ} → k ≡ count_in (drop (count_at i) c) → k < 65536 → {m : ℕ} → m ≡ from_bool (not (eqb k 0)) → Counted c n (trees + m) (records + k) (i + 1)
+  unfolding sum
+  counted_next h {k} e low f =
+      let turn = counts_turn c n i h e in
+      let p = present_cons k (counts_from c n (i + 1)) f in
+      record {
+        within = omega arith;
+        few = omega (arith, v.few);
+        small = omega (arith, v.small);
+        trees_left = omega (arith, v.trees_left, ap present_in turn, p.0);
+        records_left = omega (arith, v.records_left, ap sum turn);
+      }
 
   module _ (h : n ≤ i) where
     pub trees_counted : trees ≡ present_in (counts c)

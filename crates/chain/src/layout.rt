@@ -58,9 +58,7 @@ pub fn contained(c: &[u8]) -> Content
     };
     for i in 0..level_count(c) {
         let n = count(c, i);
-        if n != 0 {
-            all.trees += 1;
-        }
+        all.trees += usize::from(n != 0);
         all.records += n;
     }
     all
