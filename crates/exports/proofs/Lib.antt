@@ -1,3 +1,2 @@
-pub mod Means
 pub mod OneTotal
 pub mod OneNumber

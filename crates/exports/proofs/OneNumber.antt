@@ -1,4 +1,5 @@
 -- The exported number of a mark, of emptiness, of a record count, tidied or joined, of a verdict for two types and of a filling tells the answer: what is given has a number of its own, below a limit, and each refusal one of its own from the limit on. Assumes nothing.
+use Rattle.std.specs.Prelude.{Result, Ok, Err}
 use mathlib.Core.Bool.{Bool, true, false, cond, ◌&&◌, false≢true}
 use mathlib.Core.List.{List}
 use mathlib.Core.Logic.{◌⊎◌, inl, inr, ⊎_elim}
@@ -16,8 +17,7 @@ use Rattle.particle.proofs.Laws.{run_is, run_within, row_one}
 use Rattle.tidying.proofs.Sizes.{tidy_smaller}
 use Rattle.rules.specs.Verdicts.{Mark, passes, undecided, fails}
 use Rattle.rules.specs.Shown.{can_show}
-use Rattle.intake.specs.declared.Checked.{Checked}
-use Rattle.intake.specs.declared.Checked.TheVariants as checked
+use Rattle.intake.specs.declared.Fault.{Fault}
 use Rattle.intake.specs.declared.Refusal.TheVariants.{TypeTable}
 use Rattle.intake.specs.Number.{refusal_number}
 use Rattle.intake.specs.Scan.{alone}
@@ -94,10 +94,10 @@ abbrev emptiable_from : ℕ → Bool
 emptiable_from k = eqb k 1
 
 -- a tree alone is refused by 10 to 14
-emptiable_told : (c : Checked) (b : Bool) → Told 2 0 emptiable_from emptiable_number (answer c b)
-emptiable_told checked.Accepted true = (omega arith, refl)
-emptiable_told checked.Accepted false = (omega arith, refl)
-emptiable_told (checked.Refused f) b = (omega arith, omega arith)
+emptiable_told : (c : Result (Unit {0}) Fault) (b : Bool) → Told 2 0 emptiable_from emptiable_number (answer c b)
+emptiable_told (Ok _) true = (omega arith, refl)
+emptiable_told (Ok _) false = (omega arith, refl)
+emptiable_told (Err f) b = (omega arith, omega arith)
 
 pub one_emptiable : (t u : List ℕ) → emptiable_number (emptiable_answer t) ≡ emptiable_number (emptiable_answer u) → emptiable_answer t ≡ emptiable_answer u
 one_emptiable t u =
@@ -106,7 +106,7 @@ one_emptiable t u =
 -- The record count of a tidied tree -----------------------------------------------------
 
 -- an accepted tree has at most `max_records` records, and the tidied one no more
-tidied_few : (t : List ℕ) → refusal_alone t ≡ checked.Accepted → size_i (tidied_tree t) ≤ max_records
+tidied_few : (t : List ℕ) → refusal_alone t ≡ Ok tt → size_i (tidied_tree t) ≤ max_records
 tidied_few t e = omega (arith, tidy_smaller (tree t), ap size_i (row_one (accepted_row alone t e)), run_is t, run_within t, (sized alone t e).few)
 
 count_told : (t out : List ℕ) → Told beyond beyond itself count_number (tidy_answer t out)

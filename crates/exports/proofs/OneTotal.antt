@@ -1,4 +1,5 @@
 -- The two exported numbers of a total range tell the answer: exact or bounded, too large, unbounded, and each refusal have numbers of their own. Assumes nothing.
+use Rattle.std.specs.Prelude.{Result, Ok, Err}
 use mathlib.Core.List.{List}
 use mathlib.Core.Path.{◌≡◌, refl, ap, sym, ◌∙◌}
 use Prim.Native.Nat.{ℕ, ◌+◌, ◌≤◌, ◌<◌}
@@ -13,8 +14,6 @@ use Rattle.totals.specs.Total.{largest, cut_min, cut_bounded, cut_max, cut, tota
 use Rattle.totals.proofs.Cuts.{min_cases, bounded_cases, min_above, bounded_above, same_range}
 use Rattle.intake.specs.declared.Fault.{Fault}
 use Rattle.intake.specs.declared.Fault.TheVariants.{Fields, Pair, AllGroup, Depth, Counts}
-use Rattle.intake.specs.declared.Checked.{Checked}
-use Rattle.intake.specs.declared.Checked.TheVariants.{Accepted, Refused}
 use Rattle.intake.specs.declared.Refusal.TheVariants.{Derived}
 use Rattle.intake.specs.Number.{fault_place, refusal_number}
 use Rattle.entries.specs.Answer.{Answer, gives, refused, answer, refusal_alone}
@@ -71,8 +70,8 @@ pub one_total : (t u : List ℕ) → min_number (total_answer t) ≡ min_number 
 unfolding total
 one_total t u = go (refusal_alone t) (refusal_alone u) (exact_total (tree t)) (exact_total (tree u))
   where
-    go : (c d : Checked) (x y : Occurs) → min_number (answer c (cut x)) ≡ min_number (answer d (cut y)) → max_number (answer c (cut x)) ≡ max_number (answer d (cut y)) → answer c (cut x) ≡ answer d (cut y)
-    go Accepted Accepted x y e f = ap gives (same_range (one_min x.min y.min e) (one_max x.max y.max f))
-    go Accepted (Refused b) x y e f = absurd (apart x.min (refusal_number (Derived b)) (min_number_lem x.min) (refusal_low b) e)
-    go (Refused a) Accepted x y e f = absurd (apart y.min (refusal_number (Derived a)) (min_number_lem y.min) (refusal_low a) (sym e))
-    go (Refused a) (Refused b) x y e f = ap refused (omega arith)
+    go : (c d : Result (Unit {0}) Fault) (x y : Occurs) → min_number (answer c (cut x)) ≡ min_number (answer d (cut y)) → max_number (answer c (cut x)) ≡ max_number (answer d (cut y)) → answer c (cut x) ≡ answer d (cut y)
+    go (Ok _) (Ok _) x y e f = ap gives (same_range (one_min x.min y.min e) (one_max x.max y.max f))
+    go (Ok _) (Err b) x y e f = absurd (apart x.min (refusal_number (Derived b)) (min_number_lem x.min) (refusal_low b) e)
+    go (Err a) (Ok _) x y e f = absurd (apart y.min (refusal_number (Derived a)) (min_number_lem y.min) (refusal_low a) (sym e))
+    go (Err a) (Err b) x y e f = ap refused (omega arith)

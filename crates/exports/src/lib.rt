@@ -1,10 +1,11 @@
 // The entries for programs in C and Rust: numbers and byte slices only. Each is over the proved entry of its name; `exports_c` has them as C functions.
 #![tactic(auto)]
 
-ghost use Rattle.std.specs.Prelude.{◌≡◌, length};
+ghost use Rattle.std.specs.Prelude.{◌≡◌, ◌+◌, length};
 ghost use Rattle.particle.specs.Tree.{tree};
 ghost use Rattle.particle.specs.Empty.{emptiable};
 ghost use Rattle.totals.specs.Total.{total};
+ghost use Rattle.intake.specs.Number.{refusal_number};
 ghost use Rattle.entries.specs.Answer.{answer, refusal_alone};
 ghost use Rattle.entries.specs.ItemAnswer.{item_bytes};
 ghost use Rattle.entries.specs.TidyAnswer.{tidy_answer, tidy_buffer};
@@ -12,11 +13,11 @@ ghost use Rattle.chain.specs.Answer.{chain_answer, chain_buffer};
 ghost use Rattle.marking.specs.Answer.{mark_sheet};
 ghost use Rattle.types.specs.Builtin.{builtin_parents};
 ghost use Rattle.types.specs.Answer.{type_meaning, type_answer, fill_meaning, fill_answer, filled_sheet};
-ghost use Rattle.exports.specs.Numbers.{mark_number, total_min_number, total_max_number, min_number, max_number, emptiable_number, count_number, joined_number, verdict_number, filled_number, written};
+ghost use Rattle.exports.specs.Numbers.{beyond, mark_number, total_min_number, total_max_number, min_number, max_number, emptiable_number, count_number, joined_number, verdict_number, filled_number, written};
 
+use intake::Refusal;
 use marking::MarkAnswer;
 use totals::{TotalMax, TotalMin};
-use types::{FilledAnswer, TypeAnswer};
 
 // 2 to the power 32: no exact minimum and no bounded maximum reaches it.
 const BEYOND: u64 = 4294967296;
@@ -27,6 +28,20 @@ const TOO_LARGE: u64 = 8589934592;
 // What is added to a refusal's number in place of a mark.
 const REFUSED: u32 = 1000;
 
+// A refusal in place of a mark, a verdict or a filling.
+fn refused32(r: Refusal) -> u32
+    ensures { result ≡ 1000 + refusal_number r }
+{
+    REFUSED + u32::from(r)
+}
+
+// A refusal in place of a total or a record count.
+fn refused64(r: Refusal) -> u64
+    ensures { result ≡ beyond + refusal_number r }
+{
+    BEYOND + u64::from(u32::from(r))
+}
+
 // The mark of the sheet: 0 passes, 1 undecided, the reason's number where it fails, or 1000 + N where the sheet is refused with N.
 pub fn marker_mark(s: &[u8]) -> u32
     ensures { result ≡ mark_number (mark_sheet s.now) }
@@ -35,7 +50,7 @@ pub fn marker_mark(s: &[u8]) -> u32
         MarkAnswer::Passes => 0,
         MarkAnswer::Undecided => 1,
         MarkAnswer::Fails(r) => verdicts::reason_number(r),
-        MarkAnswer::Refused(r) => REFUSED + u32::from(r),
+        MarkAnswer::Refused(r) => refused32(r),
     }
 }
 
@@ -43,7 +58,7 @@ fn total_min_number(m: TotalMin) -> u64
     ensures { result ≡ total_min_number m }
 {
     match m {
-        TotalMin::Exact(n) => n as u64,
+        TotalMin::Exact(n) => u64::from(n),
         TotalMin::TooLarge => TOO_LARGE,
     }
 }
@@ -52,7 +67,7 @@ fn total_max_number(m: TotalMax) -> u64
     ensures { result ≡ total_max_number m }
 {
     match m {
-        TotalMax::Bounded(n) => n as u64,
+        TotalMax::Bounded(n) => u64::from(n),
         TotalMax::TooLarge => TOO_LARGE,
         TotalMax::Unbounded => BEYOND,
     }
@@ -62,10 +77,7 @@ fn total_max_number(m: TotalMax) -> u64
 pub fn marker_total_min(t: &[u8]) -> u64
     ensures { result ≡ min_number (answer (refusal_alone t.now) (total (tree t.now))) }
 {
-    match entries::total_range(t) {
-        Ok(o) => total_min_number(o.min),
-        Err(r) => BEYOND + u64::from(u32::from(r)),
-    }
+    entries::total_range(t).map_or_else(refused64, |range| total_min_number(range.min))
 }
 
 // The greatest number of the tree's total range, 2^33 where it is too large, 2^32 where it is unbounded, or 2^32 + N where the tree is
@@ -73,10 +85,7 @@ pub fn marker_total_min(t: &[u8]) -> u64
 pub fn marker_total_max(t: &[u8]) -> u64
     ensures { result ≡ max_number (answer (refusal_alone t.now) (total (tree t.now))) }
 {
-    match entries::total_range(t) {
-        Ok(o) => total_max_number(o.max),
-        Err(r) => BEYOND + u64::from(u32::from(r)),
-    }
+    entries::total_range(t).map_or_else(refused64, |range| total_max_number(range.max))
 }
 
 // 1 where the tree is emptiable, 0 where it is not, or N where it is refused with N.
@@ -96,10 +105,7 @@ pub fn marker_tidy(t: &[u8], out: &mut [u8]) -> u64
     ensures value { result ≡ count_number (tidy_answer t.now out.old) }
     ensures out_after { out.new ≡ tidy_buffer t.now out.old }
 {
-    match entries::tidy(t, out) {
-        Ok(n) => n as u64,
-        Err(r) => BEYOND + u64::from(u32::from(r)),
-    }
+    entries::tidy(t, out).map_or_else(refused64, |records| records as u64)
 }
 
 // The record count of the chain's joined tree, which is written to the start of out, 0 where no level has content, or 2^32 + N where it
@@ -109,28 +115,28 @@ pub fn marker_effective_particle(chain: &[u8], out: &mut [u8]) -> u64
     ensures out_after { out.new ≡ chain_buffer chain.now out.old }
 {
     match chain::effective_particle(chain, out) {
-        Ok(Some(n)) => n as u64,
+        Ok(Some(records)) => records as u64,
         Ok(None) => 0,
-        Err(r) => BEYOND + u64::from(u32::from(r)),
+        Err(r) => refused64(r),
     }
 }
 
-fn verdict_number(a: TypeAnswer) -> u32
-    ensures { result ≡ verdict_number (type_meaning a) }
+fn verdict_number(verdict: Result<bool, Refusal>) -> u32
+    ensures { result ≡ verdict_number (type_meaning verdict) }
 {
-    match a {
-        TypeAnswer::Ok => 0,
-        TypeAnswer::NotDerived => types::NOT_DERIVED as u32,
-        TypeAnswer::Refused(r) => REFUSED + u32::from(r),
+    match verdict {
+        Ok(true) => 0,
+        Ok(false) => u32::from(types::NOT_DERIVED),
+        Err(r) => refused32(r),
     }
 }
 
-fn filled_number(a: FilledAnswer) -> u32
-    ensures { result ≡ filled_number (fill_meaning a) }
+fn filled_number(filled: Result<(), Refusal>) -> u32
+    ensures { result ≡ filled_number (fill_meaning filled) }
 {
-    match a {
-        FilledAnswer::Filled => 0,
-        FilledAnswer::Refused(r) => REFUSED + u32::from(r),
+    match filled {
+        Ok(()) => 0,
+        Err(r) => refused32(r),
     }
 }
 

@@ -1,4 +1,5 @@
 // The C functions: each of `exports`, under its own name and with its clauses.
+// A C function stands in a static library of its own, and its clauses are what a caller in C reads: so `exports` has them once more.
 #![tactic(auto)]
 
 ghost use Rattle.std.specs.Prelude.{◌≡◌, length};

@@ -1,7 +1,0 @@
--- `exports::marker_type_derivation_ok` meets its contract. Assumes nothing.
-use Rattle.exports.specs.Numbers.{verdict_number}
-use Rattle.exports.proofs.Means.{number_as}
-use Rattle.exports.proofs.marker_type_derivation_ok.Goals as goal
-
-pub returns : goal.returns
-returns c = search (number_as verdict_number)
