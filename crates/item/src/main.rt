@@ -5,9 +5,6 @@
 use std::io;
 use streams::ROOM;
 
-// The bytes of the item's number.
-const NUMBER: usize = 2;
-
 // Why t has no such item. The entries for one tree refuse alike, so another one tells the refusal.
 fn print_why(to: &impl Print, t: &[u8]) -> io::Result<()> {
     match entries::emptiable(t) {
@@ -29,9 +26,8 @@ fn print_item(out: &impl Print, err: &impl Print, t: &[u8], k: usize) -> io::Res
 // buffer beyond that limit, and is refused.
 fn main(rt: HostRuntime) -> io::Result<()> {
     let mut input = rt.stdin();
-    let mut head = [0u8; NUMBER];
-    streams::read_full(&mut input, &mut head)?;
+    let k = streams::read_number(&mut input)?;
     let mut buf = [0u8; ROOM];
     let tree = streams::read_rest(&mut input, &mut buf)?;
-    print_item(&rt, &rt.stderr(), tree, streams::number_at(&head, 0))
+    print_item(&rt, &rt.stderr(), tree, k)
 }

@@ -5,7 +5,7 @@
 ghost use Rattle.std.specs.Prelude.{◌≡◌, ℕ, true, false, ◌+◌, ◌≤◌, ◌<◌, length, take, IfOk, OnErr};
 ghost use Rattle.std.specs.Io.KnownBytes.{Consumes, IsAtEnd};
 ghost use Rattle.particle.specs.Record.{half};
-ghost use Rattle.streams.specs.Counts.{IsPrefixLen, GivesCounted};
+ghost use Rattle.streams.specs.Counts.{IsPrefixLen, GivesNumber, GivesCounted};
 
 use particle::{MAX_RECORDS, RECORD_SIZE};
 use std::io;
@@ -63,22 +63,32 @@ pub fn filled<R: Read>(input: &mut R, buf: &mut [u8]) -> io::Result<bool>
     Ok(read_full(input, buf)? == buf.len())
 }
 
-// The bytes of a number that says how many bytes come after it.
-const COUNT: usize = 2;
+// The bytes of a number that stands before others.
+const NUMBER: usize = 2;
+
+// Reads a number of two bytes from the input. Where the input ends before, the bytes that don't come are zeros. It fails only where a read
+// does.
+pub fn read_number<R: Read>(input: &mut R) -> io::Result<usize>
+    ensures bytes { IfOk result (GivesNumber (R.remaining input.old) (R.remaining input.new)) }
+    ensures upper_bound { IfOk result (λ n. n < 65536) }
+{
+    let mut head = [0u8; NUMBER];
+    read_full(input, &mut head)?;
+    Ok(number_at(&head, 0))
+}
 
 // Reads a number of two bytes from the input, and then so many bytes, and returns these. Input that ends before leaves the rest of them as
 // they were. It fails only where a read does.
 pub fn counted<'a, R: Read>(input: &mut R, buf: &'a mut [u8; ROOM]) -> io::Result<&'a [u8]>
     ensures { IfOk result (λ s. GivesCounted (R.remaining input.old) (R.remaining input.new) s.now) }
 {
-    let mut head = [0u8; COUNT];
-    read_full(input, &mut head)?;
-    let part = &mut buf[..number_at(&head, 0)];
+    let n = read_number(input)?;
+    let part = &mut buf[..n];
     read_full(input, part)?;
     Ok(part)
 }
 
-// The tree of k records at the start of t. No tree that an entry writes has more than MAX_RECORDS.
+// The tree of k records at the start of t, a count beside the buffer as the entries answer it. None of them writes more than MAX_RECORDS.
 pub fn print_tree(to: &impl Print, t: &[u8], k: usize) -> io::Result<()> {
     if k <= MAX_RECORDS {
         let n = t.len().min(RECORD_SIZE * k);
