@@ -183,10 +183,8 @@ fn judge(op: Operation, input: &[u8], lent: &mut [u8], stored: u64, after: &[u8]
     ensures value { Agrees op input.now lent.old stored after.now → result ≡ Outcome.Agreed }
 {
     let got = answer(op, input, lent);
-    if got == stored {
-        if *lent == *after {
-            return Outcome::Agreed;
-        }
+    if got == stored && *lent == *after {
+        return Outcome::Agreed;
     }
     Outcome::Differs(Difference {
         expected: stored,
