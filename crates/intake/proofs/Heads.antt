@@ -5,6 +5,7 @@ use mathlib.Core.Bool.{Bool, true, false, cond, not, ◌&&◌, ◌||◌, false�
 use Prim.Native.Nat.{ℕ, zero, suc, ◌^◌, ◌≤◌, ◌<◌}
 use native.Mathlib.Omega.{arith}
 use lib.Dec.{eqb, ltb, leb}
+use Rattle.std.proofs.lemmas.Bool.Decides.{nat_tests}
 use borrow.Author.Tests.{leb-true, eqb-true, le-ltb, le-leb, ne_eqb}
 use Rattle.particle.specs.declared.MaxOccurs.{MaxOccurs}
 use Rattle.particle.specs.declared.MaxOccurs.TheVariants.{Bounded, Unbounded}
@@ -16,7 +17,7 @@ use Rattle.particle.specs.Encode.{kind_number, leaf_number, mark_number, max_num
 use Rattle.particle.proofs.Heads.{pair_kind, kind_capped}
 use Rattle.particle.proofs.Tests.{and-true, both_true}
 use Rattle.intake.specs.Limits.{max_depth}
-use Rattle.intake.specs.Faults.{Known, leaf_ok, bound_ok, zeros_ok, fields_ok, fault_of}
+use Rattle.intake.specs.Faults.{Known, leaf_ok, bound_ok, fields_ok, fault_of}
 use Rattle.intake.specs.Accepted.{LeafFits, MaxFits, AllFits, MemberFits, is_all, RecordFits}
 use Rattle.intake.proofs.Steps.{tests, clean, shallow}
 
@@ -90,12 +91,7 @@ record Fields (known : Known) (r : Record) : Type 0 where
   size : 0 ≡ r.size
 
 fields : (known : Known) (r : Record) → fields_ok known r ≡ true → Fields known r
-fields known r e =
-    let kind = and-true (leb r.kind 4) (leaf_ok known r && (bound_ok r && zeros_ok r)) e in
-    let leaf = and-true (leaf_ok known r) (bound_ok r && zeros_ok r) kind.1 in
-    let bound = and-true (bound_ok r) (zeros_ok r) leaf.1 in
-    let zeros = and-true (eqb r.zero 0) (eqb r.size 0) bound.1 in
-    record { kind = kind.0; leaf = leaf.0; bound = bound.0; zero = sym (eqb-true r.zero 0 zeros.0); size = sym (eqb-true r.size 0 zeros.1) }
+fields known r e = record { kind = grind arith; leaf = grind arith; bound = grind arith; zero = grind (arith, nat_tests); size = grind (arith, nat_tests) }
 
 kind_back : (k l : ℕ) (p : Occurs) → k ≤ 4 → kind_number (head_from k l p) ≡ k
 kind_back k l p h = omega (arith, kind_capped k l p)
@@ -118,8 +114,8 @@ max_back (suc (suc u)) m e = absurd (false≢true (rw (ne_eqb (suc (suc u)) 0 (�
 known_leaf : (b : Bool) (n : ℕ) (x : Items) → (b && eqb n 0) ≡ true → (b ≡ true) × (take_i n x ≡ none)
 unfolding take_i
 known_leaf b n x e =
-    let s = and-true b (eqb n 0) e in
-    (s.0, ap (λ (k : ℕ). take_i k x) (eqb-true n 0 s.1))
+    let z : n ≡ 0 = grind (arith, nat_tests) in
+    (grind arith, rw z)
 
 leaf_fits : (known : Known) (h : Head) (n : ℕ) (b : Items) → leaf_ok known (record_of h n) ≡ true → LeafFits known h (take_i n b)
 leaf_fits known (element l p) n b e = known_leaf (known 0 l) n b e
@@ -195,6 +191,5 @@ pub not_in_all : (known : Known) (r : Record) (d : ℕ) (a : Bool) → fault_of 
 not_in_all known r d false e n = refl
 not_in_all known r d true e n =
     let c = clean known r d true e in
-    let kind = eqb-true r.kind 0 (and-true (not (eqb r.kind 4) || (eqb r.unbounded 0 && eqb r.max 1)) (eqb r.kind 0) c.group).1 in
-    let leaf = rw kind at (fields known r c.fields).leaf in
-    absurd (n (eqb-true r.count 0 (and-true (known 0 r.leaf) (eqb r.count 0) leaf).1))
+    let kind : r.kind ≡ 0 = grind (arith, nat_tests, c.group) in
+    absurd (n (grind (arith, nat_tests, rw kind at (fields known r c.fields).leaf)))

@@ -1,7 +1,7 @@
 -- One step of the scan: a group that has its items, a record that is missing, awaited or too many, and a record's own fault. Assumes nothing.
 use Rattle.std.specs.Prelude.{Result, Ok, Err}
 use mathlib.Core.Path.{◌≡◌, refl, ap}
-use mathlib.Core.Bool.{Bool, true, false, cond}
+use mathlib.Core.Bool.{Bool, true, cond}
 use mathlib.Core.List.{List, [], ◌∷◌}
 use Prim.Native.Nat.{ℕ, suc, ◌≤◌}
 use native.Mathlib.Omega.{arith}
@@ -38,14 +38,7 @@ pub record Clean (known : Known) (r : Record) (d : ℕ) (a : Bool) : Type 0 wher
 
 module _ (known : Known) (r : Record) (d : ℕ) (a : Bool) (e : fault_of known r d a ≡ Ok tt) where
   pub clean : Clean known r d a
-  clean = go (fields_ok known r) (pair_ok r) (all_ok r a) (leb d max_depth) refl refl refl refl e
-    where
-      go : (f p g s : Bool) → fields_ok known r ≡ f → pair_ok r ≡ p → all_ok r a ≡ g → leb d max_depth ≡ s → outcome f p g s ≡ Ok tt → Clean known r d a
-      go true true true true x y z w q = record { fields = x; pair = y; group = z; depth = w }
-      go true true true false x y z w q = absurd (refused q)
-      go true true false s x y z w q = absurd (refused q)
-      go true false g s x y z w q = absurd (refused q)
-      go false p g s x y z w q = absurd (refused q)
+  clean = record { fields = grind arith; pair = grind arith; group = grind arith; depth = grind arith }
 
   pub shallow : d ≤ max_depth
   shallow = leb-true d max_depth clean.depth

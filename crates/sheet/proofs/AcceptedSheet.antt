@@ -1,8 +1,7 @@
 -- What holds of a sheet that is not refused: what the marking needs of its parts. Assumes nothing.
-use Rattle.std.specs.Prelude.{Result, Ok, Err}
-use Rattle.intake.specs.declared.Fault.{Fault}
-use mathlib.Core.Path.{◌≡◌, refl}
-use mathlib.Core.Bool.{Bool, true, false, cond}
+use Rattle.std.specs.Prelude.{Ok}
+use mathlib.Core.Path.{◌≡◌}
+use mathlib.Core.Bool.{true}
 use mathlib.Core.List.{List}
 use Prim.Native.Nat.{ℕ, ◌*◌, ◌≤◌}
 use native.Mathlib.Omega.{arith}
@@ -11,13 +10,11 @@ use Rattle.particle.specs.Record.{record_size, max_records}
 use Rattle.particle.specs.Tree.{records}
 use Rattle.particle.specs.Rows.{Row}
 use Rattle.particle.specs.Encode.{Faithful}
-use Rattle.intake.specs.declared.Refusal.{Refusal}
-use Rattle.intake.specs.declared.Refusal.TheVariants.{Contents, Leaf, Verdict, Base, Derived}
 use Rattle.intake.specs.Scan.{refusal_in}
 use Rattle.intake.proofs.AcceptedFits.{accepted_row, accepted_faithful}
 use Rattle.verdicts.specs.Paper.{leaf_size, leaves_of}
 use Rattle.sheet.specs.Layout.{leaf_count, leaf_list, leaves_part, tables_part, derived_part, base_part}
-use Rattle.sheet.specs.Refused.{contents_ok, leaves_ok, verdicts_ok, known_in, or_else, sheet_refusal}
+use Rattle.sheet.specs.Refused.{contents_ok, leaves_ok, verdicts_ok, known_in, sheet_refusal}
 use Rattle.sheet.proofs.Contents as C
 use Rattle.sheet.proofs.Contents.{contents}
 
@@ -29,26 +26,9 @@ pub record Passed (s : List ℕ) : Type 0 where
   pub base : refusal_in (known_in s) (base_part s) ≡ Ok tt
   pub derived : refusal_in (known_in s) (derived_part s) ≡ Ok tt
 
-refused : {f : Refusal} → ◌≡◌ {A = Result (Unit {0}) Refusal} (Err f) (Ok tt) → ⊥
-refused e = let z : ◌≡◌ {A = ℕ} 0 1 = cc in omega arith
-
--- the refusal, by what the checks find
-abbrev outcome : (contents leaves verdicts : Bool) (base derived : Result (Unit {0}) Fault) → Result (Unit {0}) Refusal
-outcome c l v b d = cond c (cond l (cond v (or_else Base b (or_else Derived d (Ok tt))) (Err Verdict)) (Err Leaf)) (Err Contents)
-
-all_passed : (c l v : Bool) (b d : Result (Unit {0}) Fault) → outcome c l v b d ≡ Ok tt → (c ≡ true) × (l ≡ true) × (v ≡ true) × (b ≡ Ok tt) × (d ≡ Ok tt)
-all_passed true true true (Ok _) (Ok _) e = (refl, refl, refl, refl, refl)
-all_passed true true true (Ok _) (Err f) e = absurd (refused e)
-all_passed true true true (Err f) d e = absurd (refused e)
-all_passed true true false b d e = absurd (refused e)
-all_passed true false v b d e = absurd (refused e)
-all_passed false l v b d e = absurd (refused e)
-
 pub passed : (s : List ℕ) → sheet_refusal s ≡ Ok tt → Passed s
 unfolding sheet_refusal
-passed s e =
-    let p = all_passed (contents_ok s) (leaves_ok (leaf_list s)) (verdicts_ok (tables_part s)) (refusal_in (known_in s) (base_part s)) (refusal_in (known_in s) (derived_part s)) e in
-    record { contents = p.0; leaves = p.1; verdicts = p.2; base = p.3; derived = p.4 }
+passed s e = record { contents = grind arith; leaves = grind arith; verdicts = grind arith; base = grind arith; derived = grind arith }
 
 pub not_refused : (s : List ℕ) → Passed s → sheet_refusal s ≡ Ok tt
 unfolding sheet_refusal

@@ -1,4 +1,5 @@
 -- The tests of leaves and verdicts are document 01's conditions, and the leaves that the trees may name are those of the list. Assumes nothing.
+use Rattle.std.proofs.lemmas.Bool.Decides.{nat_tests}
 use mathlib.Core.Path.{◌≡◌, refl, fun_ext}
 use mathlib.Core.Bool.{Bool, true, false, ◌&&◌}
 use mathlib.Core.List.{List, [], ◌∷◌, ◌++◌}
@@ -7,7 +8,7 @@ use Prim.Native.Nat.{ℕ, zero, suc, ◌^◌, ◌<◌}
 use native.Mathlib.Omega.{arith}
 use lib.Dec.{eqb, leb, leb-suc-suc}
 use lib.ListN.{length, drop}
-use borrow.Author.Tests.{leb-true, le-leb, lt-leb, eqb-true, lt-ltb, le-ltb}
+use borrow.Author.Tests.{leb-true, le-leb, eqb-true, lt-ltb, le-ltb}
 use Rattle.particle.specs.Encode.{Bytes}
 use Rattle.particle.proofs.RoundTrip.{byte_at, bytes_drop}
 use Rattle.particle.proofs.Tests.{and-true, or-true}
@@ -52,10 +53,8 @@ pub verdict_fits : (v : ℕ) → verdict_ok v ≡ true → VerdictFits v
 verdict_fits v e = ⊎_elim (λ a. inl (leb-true v 1 a)) (λ b. let s = and-true (leb 140 v) (leb v 152) b in inr (leb-true 140 v s.0, leb-true v 152 s.1)) (or-true (leb v 1) (in_range 140 152 v) e)
 
 pub fits_verdict : (v : ℕ) → VerdictFits v → verdict_ok v ≡ true
-fits_verdict v (inl l) = rw (le-leb v 1 l)
-fits_verdict v (inr b) =
-    let h : 1 < v = omega (arith, b.0) in
-    rw (lt-leb v 1 h, le-leb 140 v b.0, le-leb v 152 b.1)
+fits_verdict v (inl l) = grind (arith, nat_tests)
+fits_verdict v (inr b) = grind (arith, nat_tests)
 
 -- Leaves -----------------------------------------------------------------------
 
