@@ -2,7 +2,6 @@ pub mod Parts
 pub mod Ranges
 pub mod Readings
 pub mod Once
-pub mod Standing
 pub mod Members
 pub mod LeftOver
 pub mod OrderedWalk

@@ -119,19 +119,3 @@ module _ (q : Occurs) (r k : ℕ) (v : Verdict) (g : mark_of v ≡ base_once q k
       go Ok t = absurd (t refl)
       go Unknown t = refl
       go (Violation x) t = refl
-
--- The base's own pair, as the code asks it.
-module _ (q : Occurs) (k : ℕ) where
-  pub pair_required : 1 < q.min → fails k ≡ base_once q k
-  pair_required l = rw (lt-leb q.min 1 l)
-
-  module _ (l : q.min ≤ 1) where
-    pub pair_unbounded : q.max ≡ Unbounded → passes ≡ base_once q k
-    pair_unbounded e = rw (le-leb q.min 1 l, e)
-
-    module _ {m : ℕ} (e : q.max ≡ Bounded m) where
-      pub pair_zero : m ≡ 0 → fails 125 ≡ base_once q k
-      pair_zero z = rw (le-leb q.min 1 l, e, z)
-
-      pub pair_some : ¬ (m ≡ 0) → passes ≡ base_once q k
-      pair_some z = rw (le-leb q.min 1 l, e, ne_eqb m 0 z)

@@ -19,8 +19,7 @@ use Rattle.verdicts.specs.declared.Reason.TheVariants.{NotAllowed, NoAlternative
 use Rattle.verdicts.specs.Reasons.{mark_of}
 use Rattle.verdicts.proofs.Marks.{NotOk}
 use Rattle.restriction.specs.declared.marks.Marks.{Marks}
-use Rattle.restriction.specs.declared.marks.Standing.{Standing}
-use Rattle.restriction.specs.declared.marks.Standing.TheVariants.{On}
+use Rattle.std.specs.Prelude.{Option, None, Some}
 use Rattle.restriction.specs.Views.{as_once, each_once}
 use Rattle.restriction.specs.Marks.{BothMarks, sequence_mark, sequence_once, choice_mark, choice_once, Stands, on, ended, standing, walked_on, came_to, settled_at}
 use Rattle.restriction.proofs.Parts.{cons, Part, Step, part_start, part_next, row_none, row_cons}
@@ -53,7 +52,7 @@ module _ (J : Judge) (lax : Bool) (x y : Particle) (s : Items) where
       go (fails r) e = skip r e (lax || emptiable y) refl
 
 -- The walk of x over the first bn trees of bs stands so; the next item starts t, j of them before the end.
-pub record Walking (J : Judge) (lax : Bool) (x : Particle) (bn : ℕ) (bs : List ℕ) (st : Standing) (t : List ℕ) (j : ℕ) : Type 0 where
+pub record Walking (J : Judge) (lax : Bool) (x : Particle) (bn : ℕ) (bs : List ℕ) (st : Option Verdict) (t : List ℕ) (j : ℕ) : Type 0 where
   pub rest_says : recurse_ordered J lax (single x) (row bn bs) ≡ walk_goes_on (standing st) (recurse_ordered J lax (single x) (row j t))
 
 -- The alternatives to x, of which those before came to v.
@@ -62,7 +61,7 @@ pub record Choosing (J : Judge) (reason : ℕ) (x : Particle) (bn : ℕ) (bs : L
   pub keeps : mark_of v or_else fails reason ≡ mark_of v
 
 module _ {J : Judge} {x : Particle} {bn : ℕ} {bs t : List ℕ} {j : ℕ} where
-  walk_end : {lax : Bool} {st : Standing} → Walking J lax x bn bs st t j → j ≡ 0 → recurse_ordered J lax (single x) (row bn bs) ≡ came_to (standing st)
+  walk_end : {lax : Bool} {st : Option Verdict} → Walking J lax x bn bs st t j → j ≡ 0 → recurse_ordered J lax (single x) (row bn bs) ≡ came_to (standing st)
   unfolding recurse_ordered
   walk_end {lax} {st} w z = w.rest_says ∙ (ap (λ (y : Items). walk_goes_on (standing st) (recurse_ordered J lax (single x) y)) (row_none j t z) ∙ go (standing st))
     where
@@ -76,7 +75,7 @@ module _ {J : Judge} {x : Particle} {bn : ℕ} {bs t : List ℕ} {j : ℕ} where
 
   -- a turn: m is the mark of x at the next item, s the part after it
   module _ (trees : Run j t) {b s : List ℕ} {j' : ℕ} (g : Step j t b s j') {m : Mark} (says : m ≡ J x (tree b)) where
-    walk_next : {lax : Bool} {st st' : Standing} → Walking J lax x bn bs st t j → standing st' ≡ walked_on (standing st) m lax (emptiable (tree b)) (left_over (row j' s)) → Walking J lax x bn bs st' s j'
+    walk_next : {lax : Bool} {st st' : Option Verdict} → Walking J lax x bn bs st t j → standing st' ≡ walked_on (standing st) m lax (emptiable (tree b)) (left_over (row j' s)) → Walking J lax x bn bs st' s j'
     walk_next {lax} {st} w a = record {
       rest_says =
           w.rest_says
@@ -132,13 +131,13 @@ module _ (J : Judge) (p q : Occurs) {d : List ℕ} (w : Run 1 d) (b : Items) (v 
       (e.0 ∙ sym f.0, e.1 ∙ rw (a, alone w i one, f.1))
 
 -- Against a sequence: two walks.
-pub record TwoWalks (J : Judge) (x y : Particle) (bn : ℕ) (bs : List ℕ) (once own : Standing) (t : List ℕ) (j : ℕ) : Type 0 where
+pub record TwoWalks (J : Judge) (x y : Particle) (bn : ℕ) (bs : List ℕ) (once own : Option Verdict) (t : List ℕ) (j : ℕ) : Type 0 where
   pub part : Part j t bs
   pub once_walk : Walking J false x bn bs once t j
   pub own_walk : Walking J false y bn bs own t j
 
 -- Against a choice: the lax walk and the alternatives to the element that counts once, and the alternatives to the other.
-pub record ThreeReadings (J : Judge) (x y : Particle) (bn : ℕ) (bs : List ℕ) (first : Standing) (once own : Verdict) (t : List ℕ) (j : ℕ) : Type 0 where
+pub record ThreeReadings (J : Judge) (x y : Particle) (bn : ℕ) (bs : List ℕ) (first : Option Verdict) (once own : Verdict) (t : List ℕ) (j : ℕ) : Type 0 where
   pub part : Part j t bs
   pub first_walk : Walking J true x bn bs first t j
   pub once_any : Choosing J 120 x bn bs once t j
@@ -178,10 +177,10 @@ passes_still false st undecided m n e = cc
 passes_still false st (fails r) m n e = cc
 
 module _ {J : Judge} {x y : Particle} {bn : ℕ} {bs : List ℕ} where
-  pub walks_start : Run bn bs → TwoWalks J x y bn bs On On bs bn
+  pub walks_start : Run bn bs → TwoWalks J x y bn bs None None bs bn
   walks_start w = record { part = part_start w; once_walk = record { rest_says = refl }; own_walk = record { rest_says = refl } }
 
-  pub readings_start : Run bn bs → ThreeReadings J x y bn bs On (Violation NotAllowed) (Violation NoAlternative) bs bn
+  pub readings_start : Run bn bs → ThreeReadings J x y bn bs None (Violation NotAllowed) (Violation NoAlternative) bs bn
   readings_start w = record {
     part = part_start w;
     first_walk = record { rest_says = refl };
@@ -191,10 +190,10 @@ module _ {J : Judge} {x y : Particle} {bn : ℕ} {bs : List ℕ} where
 
   -- the next item starts t, j of them before the end
   module _ {t : List ℕ} {j : ℕ} where
-    module _ {once own : Standing} (w : TwoWalks J x y bn bs once own t j) where
+    module _ {once own : Option Verdict} (w : TwoWalks J x y bn bs once own t j) where
       -- a turn: both marks at the item, and the part after it
       module _ {b s : List ℕ} {j' : ℕ} (g : Step j t b s j') (marks : Marks) (says : BothMarks marks (J x (tree b)) (J y (tree b))) where
-        pub walks_next : {once' own' : Standing} → standing once' ≡ walked_on (standing once) (mark_of marks.once) false (emptiable (tree b)) (left_over (row j' s))
+        pub walks_next : {once' own' : Option Verdict} → standing once' ≡ walked_on (standing once) (mark_of marks.once) false (emptiable (tree b)) (left_over (row j' s))
             → standing own' ≡ walked_on (standing own) (mark_of marks.own) false (emptiable (tree b)) (left_over (row j' s)) → TwoWalks J x y bn bs once' own' s j'
         walks_next a a' = record {
           part = part_next g w.part;
@@ -230,9 +229,9 @@ module _ {J : Judge} {x y : Particle} {bn : ℕ} {bs : List ℕ} where
             by_walks (w.once_walk.rest_says ∙ settled_once within (standing once) (standing own) (sym i ∙ s) m)
             (rw (w.once_walk.rest_says, w.own_walk.rest_says) (settled_own within 105 (standing once) (standing own) (sym i ∙ s) m n))
 
-    module _ {first : Standing} {once own : Verdict} (w : ThreeReadings J x y bn bs first once own t j) where
+    module _ {first : Option Verdict} {once own : Verdict} (w : ThreeReadings J x y bn bs first once own t j) where
       module _ {b s : List ℕ} {j' : ℕ} (g : Step j t b s j') (marks : Marks) (says : BothMarks marks (J x (tree b)) (J y (tree b))) where
-        pub readings_next : {first' : Standing} {once' own' : Verdict} → standing first' ≡ walked_on (standing first) (mark_of marks.once) true (emptiable (tree b)) (left_over (row j' s))
+        pub readings_next : {first' : Option Verdict} {once' own' : Verdict} → standing first' ≡ walked_on (standing first) (mark_of marks.once) true (emptiable (tree b)) (left_over (row j' s))
             → mark_of once' ≡ combine_readings (mark_of once) (mark_of marks.once) → mark_of own' ≡ combine_readings (mark_of own) (mark_of marks.own)
             → ThreeReadings J x y bn bs first' once' own' s j'
         readings_next a o c = record {

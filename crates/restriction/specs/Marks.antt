@@ -1,5 +1,5 @@
 -- The two marks of an element against a base sequence or choice, counting once and with its own pair, and the walk of one element, item by item. Assumes nothing: these are definitions.
-use Rattle.std.specs.Prelude.{Bool, true, false, ◌||◌, ◌≡◌}
+use Rattle.std.specs.Prelude.{Bool, true, false, ◌||◌, ◌≡◌, Option, None, Some}
 use Rattle.particle.specs.declared.Occurs.{Occurs}
 use Rattle.particle.specs.Occurs.{range_ok, exactly}
 use Rattle.particle.specs.Tree.{Items, Particle, single}
@@ -7,10 +7,9 @@ use Rattle.rules.specs.Verdicts.{Mark, passes, undecided, fails}
 use Rattle.rules.specs.Combine.{◌or_fails◌, ◌and_then◌, combine_readings}
 use Rattle.rules.specs.Walk.{Judge, recurse_ordered, alternatives}
 use Rattle.rules.specs.Rule.{base_once}
+use Rattle.verdicts.specs.declared.Verdict.{Verdict}
 use Rattle.verdicts.specs.Reasons.{mark_of}
 use Rattle.restriction.specs.declared.marks.Marks.{Marks}
-use Rattle.restriction.specs.declared.marks.Standing.{Standing}
-use Rattle.restriction.specs.declared.marks.Standing.TheVariants.{On, Ended}
 
 abbrev pub BothMarks : Marks → (once own : Mark) → Type 0
 BothMarks r once own = (mark_of r.once ≡ once) × (mark_of r.own ≡ own)
@@ -36,9 +35,9 @@ pub data Stands : Type 0 where
   on : Stands
   ended : Mark → Stands
 
-abbrev pub standing : Standing → Stands
-standing On = on
-standing (Ended v) = ended (mark_of v)
+abbrev pub standing : Option Verdict → Stands
+standing None = on
+standing (Some v) = ended (mark_of v)
 
 -- one step: m is the element's mark at an item, `empty` whether that is emptiable, `over` what the items after it say where they are left over
 abbrev pub walked_on : Stands → (m : Mark) (lax empty : Bool) (over : Mark) → Stands

@@ -27,13 +27,6 @@ pub struct Marks {
     pub own: Verdict,
 }
 
-// Where the walk of one element over base items stands: it goes on, or it has come to a mark.
-#[derive(Clone, Copy)]
-pub enum Standing {
-    On,
-    Ended(Verdict),
-}
-
 // Against an element. Where the first table keeps the two apart, both marks are its verdict.
 pub fn with_element(leaf: u8, p: Occurs, m: u8, q: Occurs, paper: &Paper) -> Marks
     ensures { BothMarks result (element_restrict (paper_tables paper.now) leaf (exactly 1) m q) (element_restrict (paper_tables paper.now) leaf p m q) }
@@ -68,51 +61,42 @@ pub fn base_fails(range: Reason, wrapped: Verdict, second: Verdict) -> Marks
     }
 }
 
-// One step of a walk: m is the element's mark at b, after which the trees of rest stand.
+// One step of a walk of one element over base items, which has come to a mark or goes on: m is the element's mark at b, after which the
+// trees of rest stand.
 pub fn walk_on(
-    walk: Standing,
+    walk: Option<Verdict>,
     m: Verdict,
     lax: bool,
     b: MeasuredTree,
     rest: MeasuredTrees,
-) -> Standing
+) -> Option<Verdict>
     ensures { standing result ≡ walked_on (standing walk) (mark_of m) lax (emptiable (tree_of b.entry)) (left_over (row_of rest.entry)) }
 {
-    let Standing::On = walk else {
+    if walk.is_some() {
         return walk;
-    };
+    }
     match m {
-        Verdict::Ok => {
-            if lax {
-                return Standing::Ended(Verdict::Ok);
-            }
-            Standing::Ended(left_over(rest))
-        }
-        Verdict::Unknown => Standing::Ended(Verdict::Unknown),
+        Verdict::Ok if lax => Some(Verdict::Ok),
+        Verdict::Ok => Some(left_over(rest)),
+        Verdict::Unknown => Some(Verdict::Unknown),
         Verdict::Violation(r) => {
-            if lax {
-                return Standing::On;
+            if lax || b.emptiable() {
+                return None;
             }
-            if b.emptiable() {
-                return Standing::On;
-            }
-            Standing::Ended(Verdict::Violation(r))
+            Some(Verdict::Violation(r))
         }
     }
 }
 
 // What a walk has come to where no item is left.
-fn came_to(walk: Standing) -> Verdict
+fn came_to(walk: Option<Verdict>) -> Verdict
     ensures { mark_of result ≡ came_to (standing walk) }
 {
-    match walk {
-        Standing::On => Verdict::Violation(Reason::NotAllowed),
-        Standing::Ended(v) => v,
-    }
+    walk.unwrap_or(Verdict::Violation(Reason::NotAllowed))
 }
 
 // The mark with the own pair: the wrapped reading, whose walk stands so, where the pair is within the base's, and the other one.
-pub fn read(within: bool, range: Reason, wrapped: Standing, direct: Verdict) -> Verdict
+pub fn read(within: bool, range: Reason, wrapped: Option<Verdict>, direct: Verdict) -> Verdict
     ensures { mark_of result ≡ combine_readings (within or_fails reason_number range and_then came_to (standing wrapped)) (mark_of direct) }
 {
     if within {
@@ -122,25 +106,17 @@ pub fn read(within: bool, range: Reason, wrapped: Standing, direct: Verdict) -> 
 }
 
 // Whether later items can change nothing: both walks have ended, or the wrapped reading passes.
-pub fn settled(within: bool, once: Standing, own: Standing) -> bool
+pub fn settled(within: bool, once: Option<Verdict>, own: Option<Verdict>) -> bool
     ensures { result ≡ settled_at within (standing once) (standing own) }
 {
-    match once {
-        Standing::On => false,
-        Standing::Ended(v) => match own {
-            Standing::Ended(_) => true,
-            Standing::On => {
-                if let Verdict::Ok = v {
-                    return within;
-                }
-                false
-            }
-        },
-    }
+    let Some(v) = once else {
+        return false;
+    };
+    own.is_some() || (within && matches!(v, Verdict::Ok))
 }
 
 // Both marks against a sequence, by the two walks.
-pub fn walked(within: bool, once: Standing, own: Standing) -> Marks
+pub fn walked(within: bool, once: Option<Verdict>, own: Option<Verdict>) -> Marks
     ensures { BothMarks result (came_to (standing once)) (combine_readings (within or_fails 105 and_then came_to (standing once)) (came_to (standing own))) }
 {
     let direct = came_to(own);
@@ -190,8 +166,8 @@ pub fn sequence_marks(
         return base_fails(Reason::SequenceRange, wrapped, sequence_once);
     };
     let within = particle::range_ok(p, q);
-    let mut once = Standing::On;
-    let mut own = Standing::On;
+    let mut once = None;
+    let mut own = None;
     let mut left = bs;
     while let Some(b) = left.next() {
         let item = element_marks(d, leaf, p, b, paper);
@@ -226,7 +202,7 @@ pub fn choice_marks(
         return base_fails(Reason::ChoiceRange, wrapped, choice_once);
     };
     let within = particle::range_ok(p, q);
-    let mut first = Standing::On;
+    let mut first = None;
     let mut once = Verdict::Violation(Reason::NotAllowed);
     let mut own = Verdict::Violation(Reason::NoAlternative);
     let mut left = bs;

@@ -16,10 +16,7 @@ use verdicts::{Reason, Verdict};
 pub fn kind_of(r: Record) -> u8
     ensures { (result ≡ kind_number (head_of r)) × (result ≤ 4) }
 {
-    if r.kind < particle::ALL {
-        return r.kind;
-    }
-    particle::ALL
+    r.kind.min(particle::ALL)
 }
 
 pub fn exactly_one() -> Occurs
@@ -35,24 +32,16 @@ pub fn exactly_one() -> Occurs
 pub fn counts_once(p: Occurs) -> bool
     ensures { result ≡ is_once p }
 {
-    if p.min != 1 {
-        return false;
-    }
-    let pmax = p.max;
-    match pmax {
-        MaxOccurs::Unbounded => false,
-        MaxOccurs::Bounded(m) => m == 1,
-    }
+    p.min == 1 && matches!(p.max, MaxOccurs::Bounded(1))
 }
 
-// A derived record's pair; once, an element's is (1,1).
+// A derived record's pair; once, an element's is (1,1). Its like for a base record has another kind and another pair: as one function the
+// two would take both as parameters.
 pub fn derived_range(r: Record, once: bool) -> Occurs
     ensures { result ≡ pair_of (once_head once (head_of r)) }
 {
-    if once {
-        if r.kind == particle::ELEMENT {
-            return exactly_one();
-        }
+    if once && r.kind == particle::ELEMENT {
+        return exactly_one();
     }
     particle::range(r)
 }
@@ -61,13 +50,11 @@ pub fn derived_range(r: Record, once: bool) -> Occurs
 pub fn base_range(r: Record, any: bool) -> Occurs
     ensures { result ≡ pair_of (any_head any (head_of r)) }
 {
-    if any {
-        if r.kind == particle::WILDCARD {
-            return Occurs {
-                min: 0,
-                max: MaxOccurs::Unbounded,
-            };
-        }
+    if any && r.kind == particle::WILDCARD {
+        return Occurs {
+            min: 0,
+            max: MaxOccurs::Unbounded,
+        };
     }
     particle::range(r)
 }
@@ -79,8 +66,7 @@ pub fn base_once(q: Occurs, required: Reason) -> Verdict
     if 1 < q.min {
         return Verdict::Violation(required);
     }
-    let qmax = q.max;
-    match qmax {
+    match q.max {
         MaxOccurs::Unbounded => Verdict::Ok,
         MaxOccurs::Bounded(m) => {
             if m == 0 {
@@ -105,9 +91,8 @@ fn times_count_max(m: MaxOccurs, n: u32) -> TotalMax
 pub fn times_count(p: Occurs, n: u32) -> TotalRange
     ensures { result ≡ times_count p n }
 {
-    let pmax = p.max;
     TotalRange {
         min: totals::product_min(p.min, n),
-        max: times_count_max(pmax, n),
+        max: times_count_max(p.max, n),
     }
 }

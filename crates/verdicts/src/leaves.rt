@@ -21,22 +21,14 @@ pub struct Paper<'a> {
 pub fn byte_or(s: &[u8], i: usize, d: u8) -> u8
     ensures { result ≡ get_or s.now i d }
 {
-    if s.len() <= i {
-        return d;
-    }
-    s[i]
+    s.get(i).copied().unwrap_or(d)
 }
 
 // The verdict at place i of the tables; undecided where there is none.
 fn verdict_at(tables: &[u8], i: usize) -> Verdict
     ensures { mark_of result ≡ verdict_of (get_or tables.now i 1) }
 {
-    let v = byte_or(tables, i, 1);
-    match v {
-        0 => Verdict::Ok,
-        1 => Verdict::Unknown,
-        _ => Verdict::Violation(Reason::Set(v)),
-    }
+    Verdict::from(byte_or(tables, i, 1))
 }
 
 // The whole product: 16 bits hold it.
@@ -50,17 +42,15 @@ fn product(a: u8, b: u8) -> usize
 fn max_restrict(d: MaxOccurs, b: MaxOccurs) -> Verdict
     ensures { mark_of result ≡ max_restrict d b }
 {
-    match b {
-        MaxOccurs::Unbounded => Verdict::Ok,
-        MaxOccurs::Bounded(n) => match d {
-            MaxOccurs::Unbounded => Verdict::Violation(Reason::MaxUnbounded),
-            MaxOccurs::Bounded(m) => {
-                if n < m {
-                    return Verdict::Violation(Reason::MaxAbove);
-                }
-                Verdict::Ok
+    match (d, b) {
+        (_, MaxOccurs::Unbounded) => Verdict::Ok,
+        (MaxOccurs::Unbounded, MaxOccurs::Bounded(_)) => Verdict::Violation(Reason::MaxUnbounded),
+        (MaxOccurs::Bounded(m), MaxOccurs::Bounded(n)) => {
+            if n < m {
+                return Verdict::Violation(Reason::MaxAbove);
             }
-        },
+            Verdict::Ok
+        }
     }
 }
 
@@ -109,9 +99,7 @@ impl Paper<'_> {
         if p.min < q.min {
             return Verdict::Violation(Reason::MinBelow);
         }
-        let pmax = p.max;
-        let qmax = q.max;
-        let w = max_restrict(pmax, qmax);
+        let w = max_restrict(p.max, q.max);
         let Verdict::Ok = w else {
             return w;
         };
@@ -122,22 +110,22 @@ impl Paper<'_> {
     pub fn element_wildcard(&self, l: u8, p: Occurs, m: u8, q: Occurs) -> Verdict
         ensures { mark_of result ≡ range_ok p q or_fails 101 and_then (paper_tables self.now).second l m }
     {
-        if particle::range_ok(p, q) {
-            return self.second(l, m);
+        if !particle::range_ok(p, q) {
+            return Verdict::Violation(Reason::ElementWildcardRange);
         }
-        Verdict::Violation(Reason::ElementWildcardRange)
+        self.second(l, m)
     }
 
     // Wildcard against wildcard: range, weaker process contents, second table.
     pub fn wildcard_wildcard(&self, l: u8, p: Occurs, m: u8, q: Occurs) -> Verdict
         ensures { mark_of result ≡ range_ok p q or_fails 103 and_then leb ((paper_leaves self.now).strength m) ((paper_leaves self.now).strength l) or_fails 104 and_then (paper_tables self.now).second l m }
     {
-        if particle::range_ok(p, q) {
-            if self.strength(l) < self.strength(m) {
-                return Verdict::Violation(Reason::WeakerProcessContents);
-            }
-            return self.second(l, m);
+        if !particle::range_ok(p, q) {
+            return Verdict::Violation(Reason::WildcardRange);
         }
-        Verdict::Violation(Reason::WildcardRange)
+        if self.strength(l) < self.strength(m) {
+            return Verdict::Violation(Reason::WeakerProcessContents);
+        }
+        self.second(l, m)
     }
 }

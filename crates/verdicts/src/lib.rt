@@ -66,32 +66,36 @@ pub enum Verdict {
     Violation(Reason),
 }
 
+// A table's verdict by its number: 0 ok, 1 undecided, else a reason that the paper sets.
+impl From<u8> for Verdict {
+    ghost use Rattle.verdicts.specs.Paper.{verdict_of};
+
+    ghost from_gives = { λ n v. mark_of v ≡ verdict_of n };
+
+    fn from(n: u8) -> Verdict {
+        match n {
+            0 => Verdict::Ok,
+            1 => Verdict::Unknown,
+            _ => Verdict::Violation(Reason::Set(n)),
+        }
+    }
+}
+
 // A failure after something undecided is undecided.
 pub fn definite(v: Verdict, seen: bool) -> Verdict
     ensures { mark_of result ≡ definite_of seen (mark_of v) }
 {
-    if seen {
-        return Verdict::Unknown;
-    }
-    v
+    if seen { Verdict::Unknown } else { v }
 }
 
 // Either passing passes; two failures give the first's reason; anything else is undecided.
 pub fn combine_readings(a: Verdict, b: Verdict) -> Verdict
     ensures { mark_of result ≡ combine_readings (mark_of a) (mark_of b) }
 {
-    match a {
-        Verdict::Ok => Verdict::Ok,
-        Verdict::Unknown => match b {
-            Verdict::Ok => Verdict::Ok,
-            Verdict::Unknown => Verdict::Unknown,
-            Verdict::Violation(_) => Verdict::Unknown,
-        },
-        Verdict::Violation(r) => match b {
-            Verdict::Ok => Verdict::Ok,
-            Verdict::Unknown => Verdict::Unknown,
-            Verdict::Violation(_) => Verdict::Violation(r),
-        },
+    match (a, b) {
+        (Verdict::Ok, _) | (_, Verdict::Ok) => Verdict::Ok,
+        (Verdict::Violation(r), Verdict::Violation(_)) => Verdict::Violation(r),
+        _ => Verdict::Unknown,
     }
 }
 
@@ -99,13 +103,10 @@ pub fn combine_readings(a: Verdict, b: Verdict) -> Verdict
 fn paper_reason(n: u8) -> u32
     ensures { result ≡ paper_reason n }
 {
-    if n < FIRST_SET {
-        return 0;
+    match n {
+        FIRST_SET..=LAST_SET => n as u32,
+        _ => 0,
     }
-    if LAST_SET < n {
-        return 0;
-    }
-    n as u32
 }
 
 // The number of a reason.
