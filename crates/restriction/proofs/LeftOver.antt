@@ -9,7 +9,8 @@ use Rattle.particle.specs.Empty.{emptiable}
 use Rattle.particle.specs.Runs.{Run}
 use Rattle.rules.specs.Verdicts.{passes, fails}
 use Rattle.rules.specs.Walk.{left_over}
-use Rattle.restriction.proofs.Parts.{Part, Step, part_start, part_next, row_none, row_cons}
+use Rattle.verdicts.proofs.Rest.{Step, row_none}
+use Rattle.restriction.proofs.Parts.{Part, part_start, part_next, row_cons}
 
 -- t is the part at which the next item starts, j of them before the end
 pub record LeftOver (bn : ℕ) (bs t : List ℕ) (j : ℕ) : Type 0 where

@@ -15,7 +15,8 @@ use Rattle.verdicts.specs.declared.Verdict.{Verdict}
 use Rattle.verdicts.specs.declared.Verdict.TheVariants.{Ok, Unknown, Violation}
 use Rattle.verdicts.specs.Reasons.{reason_number, mark_of, definite_of}
 use Rattle.verdicts.proofs.Marks.{now_seen}
-use Rattle.restriction.proofs.Parts.{Part, Step, part_start, part_next, row_none, row_cons}
+use Rattle.verdicts.proofs.Rest.{Step, row_none}
+use Rattle.restriction.proofs.Parts.{Part, part_start, part_next, row_cons}
 
 -- Each member, f marking one. t is the part at which the next member starts, i members before the end.
 pub record Members (f : Particle → Mark) (dn : ℕ) (ds : List ℕ) (seen : Bool) (t : List ℕ) (i : ℕ) : Type 0 where

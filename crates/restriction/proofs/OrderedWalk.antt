@@ -16,7 +16,8 @@ use Rattle.verdicts.specs.declared.Verdict.TheVariants.{Ok, Unknown, Violation}
 use Rattle.verdicts.specs.Reasons.{reason_number, mark_of, definite_of}
 use Rattle.verdicts.proofs.Marks.{now_seen}
 use Rattle.restriction.specs.Views.{as_once, each_once}
-use Rattle.restriction.proofs.Parts.{cons, Part, Step, part_start, part_next, row_none, row_cons}
+use Rattle.verdicts.proofs.Rest.{Step, row_none}
+use Rattle.restriction.proofs.Parts.{cons, Part, part_start, part_next, row_cons}
 
 -- no derived item is left
 pub lax_ends : (J : Judge) (bs : Items) → recurse_ordered J true none bs ≡ passes

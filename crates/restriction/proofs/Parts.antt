@@ -5,12 +5,13 @@ use Prim.Native.Nat.{ℕ, suc, ◌+◌, ◌*◌, ◌≤◌}
 use native.Mathlib.Nat.{le_refl}
 use native.Mathlib.Omega.{arith}
 use lib.ListN.{length}
-use Rattle.particle.specs.Tree.{Items, none, item, Particle, take_i, count_i, decode, tree}
-use Rattle.particle.specs.Rows.{row, later_part}
+use Rattle.particle.specs.Tree.{Items, item, Particle, count_i, decode, tree}
+use Rattle.particle.specs.Rows.{row}
 use Rattle.particle.specs.Runs.{Run}
 use Rattle.particle.proofs.Trees.{count_i_take}
 use Rattle.particle.proofs.Laws.{row_is, later_shorter}
 use Rattle.particle.proofs.Runs.{run_le, run_rest}
+use Rattle.verdicts.proofs.Rest.{Step}
 
 -- a tree in front of others
 abbrev pub cons : Particle → Items → Items
@@ -24,22 +25,10 @@ pub record Part (n : ℕ) (t whole : List ℕ) : Type 0 where
 pub part_start : {n : ℕ} {t : List ℕ} → Run n t → Part n t t
 part_start w = record { trees = w; within = le_refl _ }
 
-pub row_none : (n : ℕ) (t : List ℕ) → n ≡ 0 → row n t ≡ none
-unfolding take_i
-row_none n t e = rw e
-
 pub row_count : {n : ℕ} {t : List ℕ} → Run n t → count_i (row n t) ≡ n
 row_count {n} {t} w = count_i_take n (decode t) w.row.enough
 
--- A step over the first n trees of t: it gives the tree that `first` starts with, and leaves the first k trees of `rest`.
-pub record Step (n : ℕ) (t first rest : List ℕ) (k : ℕ) : Type 0 where
-  pub here : first ≡ t
-  pub after : rest ≡ later_part t
-  pub fewer : n ≡ suc k
-
-pub step : {n k : ℕ} {t first rest : List ℕ} → (first ≡ t) × (rest ≡ later_part t) × (n ≡ k + 1) → Step n t first rest k
-step g = record { here = g.0; after = g.1; fewer = omega (arith, g.2) }
-
+-- a step over the first n trees of t
 module _ {n k : ℕ} {t first rest : List ℕ} (g : Step n t first rest k) where
   from_suc : Run n t → Run (suc k) t
   from_suc w = run_le (omega (arith, g.fewer)) w

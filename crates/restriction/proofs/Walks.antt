@@ -19,10 +19,11 @@ use Rattle.verdicts.specs.declared.Reason.TheVariants.{NotAllowed, NoAlternative
 use Rattle.verdicts.specs.Reasons.{mark_of}
 use Rattle.verdicts.proofs.Marks.{NotOk}
 use Rattle.restriction.specs.declared.marks.Marks.{Marks}
-use Rattle.std.specs.Prelude.{Option, None, Some}
+use Rattle.std.specs.Prelude.{Option, None}
 use Rattle.restriction.specs.Views.{as_once, each_once}
 use Rattle.restriction.specs.Marks.{BothMarks, sequence_mark, sequence_once, choice_mark, choice_once, Stands, on, ended, standing, walked_on, came_to, settled_at}
-use Rattle.restriction.proofs.Parts.{cons, Part, Step, part_start, part_next, row_none, row_cons}
+use Rattle.verdicts.proofs.Rest.{Step, row_none}
+use Rattle.restriction.proofs.Parts.{cons, Part, part_start, part_next, row_cons}
 use Rattle.restriction.proofs.Readings.{base_passes, base_fails}
 use Rattle.restriction.proofs.Once.{alone}
 use Rattle.restriction.proofs.OrderedWalk.{lax_ends, strict_ends, step_passes, step_undecided, step_skips, step_fails}

@@ -32,18 +32,16 @@ pub fn restrict(d: MeasuredTree, once: bool, b: MeasuredTree, any: bool, paper: 
 {
     let dr = d.record();
     let br = b.record();
-    if dr.kind == particle::ELEMENT {
-        if br.kind == particle::ELEMENT {
-            let v = paper.first(dr.leaf, br.leaf);
-            let Verdict::Ok = v else {
-                return v;
-            };
-        }
+    if dr.kind == particle::ELEMENT && br.kind == particle::ELEMENT {
+        let v = paper.first(dr.leaf, br.leaf);
+        let Verdict::Ok = v else {
+            return v;
+        };
     }
     by_kinds(d, once, b, any, paper)
 }
 
-// The same by the two kinds, as one number: each selects its rule.
+// The same by the two kinds: each pair selects its rule. As document 01 has it, the pair is one number, five by five.
 #[cycle(restrict)]
 fn by_kinds(d: MeasuredTree, once: bool, b: MeasuredTree, any: bool, paper: &Paper) -> Verdict
     ensures { mark_of result ≡ paper_judge paper.now (as_once once (tree_of d.entry)) (as_any any (tree_of b.entry)) }
@@ -81,7 +79,7 @@ fn by_kinds(d: MeasuredTree, once: bool, b: MeasuredTree, any: bool, paper: &Pap
     }
 }
 
-// The ordered walk: a tree of ds is tried on the trees of bs in turn.
+// The ordered walk: a tree of ds is tried on the trees of bs in turn. As document 01 has it, each of the two loops is left by its label.
 #[cycle(restrict)]
 fn recurse_ordered(
     ds: MeasuredTrees,
@@ -187,11 +185,11 @@ fn element_sequence(
     if counts_once(p) {
         return same_kind(d.alone(), true, p, bs, q, false, paper);
     }
-    let marks = sequence_marks(d, leaf, p, bs, q, paper);
-    marks.own
+    sequence_marks(d, leaf, p, bs, q, paper).own
 }
 
-// Element against choice, in the same way: of one that counts once both readings ask the same of each alternative.
+// Element against choice, in the same way: of one that counts once both readings ask the same of each alternative. Only the test of the pair
+// is alike in the two functions.
 #[cycle(restrict)]
 fn element_choice(
     d: MeasuredTree,
@@ -211,8 +209,7 @@ fn element_choice(
         }
         return any_alternative(d, true, bs, Reason::NotAllowed, paper);
     }
-    let marks = choice_marks(d, leaf, p, bs, q, paper);
-    marks.own
+    choice_marks(d, leaf, p, bs, q, paper).own
 }
 
 // Group against wildcard: total range, then each member against the wildcard with pair (0, unbounded).
@@ -238,7 +235,8 @@ fn group_wildcard(group: MeasuredTree, b: MeasuredTree, q: Occurs, paper: &Paper
     verdicts::definite(Verdict::Ok, seen)
 }
 
-// Sequence against choice: pair times item count, then each member against the alternatives.
+// Sequence against choice: pair times item count, then each member against the alternatives. The loop is that of `group_wildcard` but for
+// the call, which is one of the cycle in both: a closure there would be no plainer.
 #[cycle(restrict)]
 fn sequence_choice(
     ds: MeasuredTrees,

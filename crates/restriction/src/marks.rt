@@ -171,10 +171,8 @@ pub fn sequence_marks(
     let mut left = bs;
     while let Some(b) = left.next() {
         let item = element_marks(d, leaf, p, b, paper);
-        let item_once = item.once;
-        let item_own = item.own;
-        once = walk_on(once, item_once, false, b, left);
-        own = walk_on(own, item_own, false, b, left);
+        once = walk_on(once, item.once, false, b, left);
+        own = walk_on(own, item.own, false, b, left);
         if settled(within, once, own) {
             return walked(within, once, own);
         }
@@ -182,7 +180,7 @@ pub fn sequence_marks(
     walked(within, once, own)
 }
 
-// The same against a choice. The wrapped reading is the lax walk, which ends at the first alternative that does not fail; the other
+// The same against a choice. It keeps other things of the items than the walks over a sequence, so that the two loops stay apart. The wrapped reading is the lax walk, which ends at the first alternative that does not fail; the other
 // reading, and the element that counts once, go on after an undecided one.
 #[cycle(restrict)]
 pub fn choice_marks(
@@ -208,11 +206,9 @@ pub fn choice_marks(
     let mut left = bs;
     while let Some(b) = left.next() {
         let item = element_marks(d, leaf, p, b, paper);
-        let item_once = item.once;
-        let item_own = item.own;
-        first = walk_on(first, item_once, true, b, left);
-        once = verdicts::combine_readings(once, item_once);
-        own = verdicts::combine_readings(own, item_own);
+        first = walk_on(first, item.once, true, b, left);
+        once = verdicts::combine_readings(once, item.once);
+        own = verdicts::combine_readings(own, item.own);
         if let Verdict::Ok = once {
             if let Verdict::Ok = read(within, Reason::ChoiceRange, first, own) {
                 return Marks {
@@ -223,7 +219,7 @@ pub fn choice_marks(
         }
     }
     Marks {
-        once: once,
+        once,
         own: read(within, Reason::ChoiceRange, first, own),
     }
 }

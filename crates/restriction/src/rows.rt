@@ -8,7 +8,7 @@ ghost use Rattle.verdicts.specs.Reasons.{mark_of};
 ghost use Rattle.verdicts.specs.Paper.{paper_leaves, paper_tables};
 ghost use Rattle.restriction.specs.Views.{all_reason};
 
-use particle::{MeasuredTrees, Occurs};
+use particle::{MeasuredTrees, Occurs, Subtrees};
 use verdicts::{Paper, Reason, Verdict};
 
 // The trees of bs, left over in an ordered walk: one that is not emptiable is missing.
@@ -35,7 +35,7 @@ pub fn group_all(
     ensures { mark_of result ≡ range_ok p q or_fails all_reason all and_then recurse_unordered (paper_leaves paper.now) (paper_tables paper.now) (row_of ds.entry) (row_of bs.entry) }
 {
     if particle::range_ok(p, q) {
-        return verdicts::recurse_unordered(ds.bytes, ds.count, bs.bytes, bs.count, paper);
+        return verdicts::recurse_unordered(Subtrees::from(ds), Subtrees::from(bs), paper);
     }
     if all {
         return Verdict::Violation(Reason::AllRange);

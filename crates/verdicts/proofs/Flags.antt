@@ -6,19 +6,15 @@ use mathlib.Core.Path.{◌≡◌, refl, ap, sym, ◌∙◌}
 use Prim.Native.Nat.{ℕ, zero, suc, ◌+◌, ◌<◌}
 use native.Mathlib.Numerals.{add-one}
 use borrow.Author.Tests.{eq-eqb, ne_eqb}
-use lib.Dec.{eqb}
+use Rattle.std.specs.Prelude.{Option, None, Some}
 use lib.ListN.{length, drop, get_or, replicate}
 use lib.Seq.{drop-cons}
 use Rattle.particle.specs.declared.Occurs.{Occurs}
-use Rattle.particle.specs.declared.Record.{Record}
-use Rattle.particle.specs.Record.{range_of}
-use Rattle.particle.specs.Tree.{Head, element, wildcard, sequence, choice, all, Items, none, item, head_from, head_of, pair_of}
+use Rattle.particle.specs.Tree.{Head, element, wildcard, sequence, choice, all, Items, none, item, head_from, pair_of}
 use Rattle.rules.specs.Verdicts.{Leaves, fails}
 use Rattle.rules.specs.Walk.{found, behind, take_named, untaken}
-use Rattle.verdicts.specs.declared.unordered.Taken.{Taken}
-use Rattle.verdicts.specs.declared.unordered.Taken.TheVariants.{Nothing, Element}
 use Rattle.verdicts.specs.Taken.{untaken_items, has_name, found_of}
-use Rattle.particle.proofs.ByKind.{any_kind, other_kind}
+use Rattle.particle.proofs.ByKind.{any_kind}
 
 pub untaken_none : (fs : List Bool) → untaken_items fs none ≡ none
 unfolding untaken_items
@@ -37,14 +33,6 @@ none_taken (suc n) none = refl
 none_taken (suc n) (item h k r) = ap (item h k) (none_taken n r)
 
 module _ (L : Leaves) (name : ℕ) where
-  -- whether an item that is not taken has the name, by its record's kind number
-  module _ {taken : Bool} (t : taken ≡ false) (r : Record) where
-    pub element_named : {n : ℕ} → r.kind ≡ 0 → n ≡ L.local_name r.leaf → eqb n name ≡ (not taken && has_name L name (head_of r))
-    element_named e n = rw (t, e, n)
-
-    pub other_unnamed : (r.kind ≡ 0 → ⊥) → false ≡ (not taken && has_name L name (head_of r))
-    other_unnamed z = rw t (sym (other_kind (λ h. has_name L name h ≡ false) r.leaf (range_of r) refl refl refl refl r.kind z))
-
   -- the first item has the name or not
   unnamed : (h : Head) (k x : Items) → has_name L name h ≡ false → take_named L name (item h k x) ≡ behind h k (take_named L name x)
   unfolding take_named
@@ -62,20 +50,20 @@ module _ (L : Leaves) (name : ℕ) where
       never e = absurd (true≢false (sym e))
 
   -- among the items x, r is the answer where the flags are fs, and then they are e
-  abbrev pub Answers : Items → (fs e : List Bool) → Taken → Type 0
+  abbrev pub Answers : Items → (fs e : List Bool) → Option (ℕ × Occurs) → Type 0
   Answers x fs e r = found_of r (untaken_items e x) ≡ take_named L name (untaken_items fs x)
 
   -- an item in front: it is passed, or it is the one
-  pub passed_by : (h : Head) (k x : Items) (f : Bool) (fs e : List Bool) (r : Taken) → (not f && has_name L name h) ≡ false → Answers x fs e r → Answers (item h k x) (f ∷ fs) (f ∷ e) r
+  pub passed_by : (h : Head) (k x : Items) (f : Bool) (fs e : List Bool) (r : Option (ℕ × Occurs)) → (not f && has_name L name h) ≡ false → Answers x fs e r → Answers (item h k x) (f ∷ fs) (f ∷ e) r
   unfolding untaken_items
   passed_by h k x true fs e r n a = a
   passed_by h k x false fs e r n a = in_front r ∙ (ap (behind h k) a ∙ sym (unnamed h k (untaken_items fs x) n))
     where
-      in_front : (r : Taken) → found_of r (item h k (untaken_items e x)) ≡ behind h k (found_of r (untaken_items e x))
-      in_front Nothing = refl
-      in_front (Element m q) = refl
+      in_front : (r : Option (ℕ × Occurs)) → found_of r (item h k (untaken_items e x)) ≡ behind h k (found_of r (untaken_items e x))
+      in_front None = refl
+      in_front (Some e) = refl
 
-  pub taken_first : (k l : ℕ) (p : Occurs) (y x : Items) (f : Bool) (fs : List Bool) → (not f && has_name L name (head_from k l p)) ≡ true → Answers (item (head_from k l p) y x) (f ∷ fs) (true ∷ fs) (Element l p)
+  pub taken_first : (k l : ℕ) (p : Occurs) (y x : Items) (f : Bool) (fs : List Bool) → (not f && has_name L name (head_from k l p)) ≡ true → Answers (item (head_from k l p) y x) (f ∷ fs) (true ∷ fs) (Some (l, p))
   unfolding untaken_items
   taken_first k l p y x true fs e = absurd (true≢false (sym e))
   taken_first k l p y x false fs e = sym (named k l p y (untaken_items fs x) e)

@@ -1,54 +1,52 @@
--- What a loop over the first n trees of a part keeps: i trees are passed, and `rest` starts at the next one. Assumes nothing.
-use mathlib.Core.Path.{◌≡◌, ap, ◌∙◌}
+-- What a loop over the first n trees of a part keeps: i trees are passed, and k are left, the next of which starts `rest`. Assumes nothing.
+use mathlib.Core.Path.{◌≡◌, refl, ap, ◌∙◌}
 use mathlib.Core.List.{List}
-use Prim.Native.Nat.{ℕ, suc, ◌+◌, ◌-◌, ◌≤◌, ◌<◌}
+use Prim.Native.Nat.{ℕ, suc, ◌+◌, ◌<◌}
 use native.Mathlib.Omega.{arith}
-use lib.ListN.{length, take, drop}
+use Rattle.std.specs.Prelude.{Option, None, Some}
 use Rattle.particle.specs.declared.Record.{Record}
-use Rattle.particle.specs.Record.{record_size, record_at}
+use Rattle.particle.specs.declared.subtrees.Subtree.{Subtree}
+use Rattle.particle.specs.declared.subtrees.Subtrees.{Subtrees}
+use Rattle.particle.specs.Record.{record_at}
 use Rattle.particle.specs.Tree.{none, item, take_i, head_of}
-use Rattle.particle.specs.Rows.{Row, row, run_size, items_part, later_part}
-use Rattle.particle.proofs.Laws.{part_is, row_le, some_bytes, run_within, tree_is, row_is, later_row}
+use Rattle.particle.specs.Rows.{Row, row, items_part, later_part}
+use Rattle.particle.specs.Subtrees.{GivesFirst}
+use Rattle.particle.proofs.Laws.{tree_is, row_is, row_rest}
 
-pub record Rest (n i : ℕ) (rest : List ℕ) : Type 0 where
-  pub passed : i ≤ n
-  pub left : Row (n - i) rest
+pub record Rest (n i k : ℕ) (rest : List ℕ) : Type 0 where
+  pub passed : i + k ≡ n
+  pub left : Row k rest
 
-pub begin : {n : ℕ} {t : List ℕ} → Row n t → Rest n 0 t
-begin w = record { passed = omega arith; left = row_le (omega arith) w }
+pub begin : {n : ℕ} {t : List ℕ} → Row n t → Rest n 0 n t
+begin w = record { passed = omega arith; left = w }
 
-pub all_passed : {n i : ℕ} {rest : List ℕ} → Rest n i rest → n ≤ i → row (n - i) rest ≡ none
+pub row_none : (k : ℕ) (t : List ℕ) → k ≡ 0 → row k t ≡ none
 unfolding take_i
-all_passed {n} {i} {rest} w l =
-    let z : n - i ≡ 0 = omega arith in
-    rw z
+row_none k t e = rw e
 
--- past a tree, with its run's length k: `&rest[k..]`
-module _ (rest : List ℕ) (k : ℕ) (e : k ≡ run_size rest) where
-  pub run_fits : k ≤ length rest
-  run_fits = omega (arith, run_within rest)
+-- A step over the first n trees of t: it gives the tree that `first` starts with, and leaves the first k trees of `rest`.
+pub record Step (n : ℕ) (t first rest : List ℕ) (k : ℕ) : Type 0 where
+  pub here : first ≡ t
+  pub after : rest ≡ later_part t
+  pub fewer : n ≡ suc k
 
-  pub later_is : take (length rest - k) (drop k rest) ≡ later_part rest
-  later_is = part_is rest k ∙ ap (λ (m : ℕ). drop m rest) e
+pub step : {n k : ℕ} {t first rest : List ℕ} → (first ≡ t) × (rest ≡ later_part t) × (n ≡ k + 1) → Step n t first rest k
+step g = record { here = g.0; after = g.1; fewer = omega (arith, g.2) }
 
--- a tree is left
-module _ {n i : ℕ} {rest : List ℕ} (w : Rest n i rest) (l : i < n) where
-  more : Row (suc (n - (i + 1))) rest
-  more = row_le (omega arith) w.left
+-- the same where a tree is left, whatever is done with it
+pub stepped : (s rest : Subtrees) (r : Option Subtree) → GivesFirst s r rest → 0 < s.count → Step s.count s.bytes.now s.bytes.now rest.bytes.now rest.count
+stepped s rest None g l = absurd (omega (arith, g.0))
+stepped s rest (Some first) g l = record { here = refl; after = g.1; fewer = omega (arith, g.2) }
 
-  pub first : Row 1 rest
-  first = row_le (omega arith) more
+module _ {k j : ℕ} {t first rest : List ℕ} (g : Step k t first rest j) where
+  pub rest_row : Row k t → Row j rest
+  rest_row w = rw g.after (row_rest g.fewer w)
 
-  pub whole_record : record_size ≤ length rest
-  whole_record = some_bytes more
+  pub next : {n i : ℕ} → Rest n i k t → Rest n (i + 1) j rest
+  next w = record { passed = omega (arith, w.passed, g.fewer); left = rest_row w.left }
 
-  -- s is what is left after it
-  module _ {s : List ℕ} (p : s ≡ later_part rest) where
-    pub next : Rest n (i + 1) s
-    next = rw p (record { passed = omega arith; left = later_row more })
-
-    -- r is its record
-    pub row_here : {r : Record} → r ≡ record_at rest → row (n - i) rest ≡ item (head_of r) (row r.count (items_part rest)) (row (n - (i + 1)) s)
-    row_here q =
-        let e : n - i ≡ suc (n - (i + 1)) = omega arith in
-        ap (λ (k : ℕ). row k rest) e ∙ (row_is more ∙ rw (tree_is more, q, p))
+  -- r is its record
+  pub row_here : {r : Record} → Row k t → r ≡ record_at first → row k t ≡ item (head_of r) (row r.count (items_part t)) (row j rest)
+  row_here w q =
+      let more : Row (suc j) t = rw g.fewer at w in
+      ap (λ (n : ℕ). row n t) g.fewer ∙ (row_is more ∙ rw (tree_is more, q, g.here, g.after))

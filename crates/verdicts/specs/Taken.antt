@@ -1,12 +1,11 @@
 -- Base items by flags, one for each item, true where it is taken; and what taking one by its name answers and marks. Assumes nothing: these are definitions.
-use Rattle.std.specs.Prelude.{Bool, true, false, List, [], ◌∷◌, ◌≡◌, ℕ, eqb}
+use Rattle.std.specs.Prelude.{Bool, true, false, List, [], ◌∷◌, ◌≡◌, ℕ, eqb, Option, None, Some}
+use Rattle.particle.specs.declared.Occurs.{Occurs}
 use Rattle.particle.specs.Tree.{Head, element, wildcard, sequence, choice, all, Items, none, item}
 use Rattle.rules.specs.Verdicts.{Leaves, Tables}
 use Rattle.rules.specs.Combine.{◌and_then◌}
 use Rattle.rules.specs.Walk.{Found, absent, found, recurse_unordered}
 use Rattle.verdicts.specs.declared.Verdict.{Verdict}
-use Rattle.verdicts.specs.declared.unordered.Taken.{Taken}
-use Rattle.verdicts.specs.declared.unordered.Taken.TheVariants.{Nothing, Element}
 use Rattle.verdicts.specs.Reasons.{mark_of}
 
 -- the items that are not taken
@@ -25,9 +24,9 @@ has_name L name (choice q) = false
 has_name L name (all q) = false
 
 -- what `take_named` answers, and the items that it leaves untaken
-abbrev pub found_of : Taken → (others : Items) → Found
-found_of Nothing others = absent
-found_of (Element m q) others = found m q others
+abbrev pub found_of : Option (ℕ × Occurs) → (others : Items) → Found
+found_of None others = absent
+found_of (Some found_here) others = found found_here.0 found_here.1 others
 
 -- v is the mark of a derived item of head h against the base items: this mark, and then the later items against what it leaves untaken, is the mark of all.
 -- The flags were fs and are es.

@@ -10,7 +10,8 @@ use Rattle.totals.specs.Total.{total_ok}
 use Rattle.rules.specs.Rule.{rule}
 use Rattle.verdicts.specs.declared.Verdict.TheVariants.{Ok, Unknown}
 use Rattle.restriction.specs.Views.{range_reason}
-use Rattle.restriction.proofs.Parts.{step, first_within}
+use Rattle.verdicts.proofs.Rest.{step}
+use Rattle.restriction.proofs.Parts.{first_within}
 use Rattle.restriction.proofs.Members.{alternatives_start, alternatives_end, alternative_passes, alternative_undecided, alternative_fails, members_start, members_end, member_passes, member_undecided, member_fails}
 use Rattle.restriction.proofs.OrderedWalk.{walk_start, walk_try, lax_end, strict_end, used_up_lem, both_advance, seen_advance, skip_lax, skip_emptiable, item_fails}
 use Rattle.restriction.proofs.Walks.{choice_ruled_out, readings_start, readings_next, readings_end, readings_pass, sequence_ruled_out, walks_start, walks_next, walks_end, walks_settled}
@@ -187,8 +188,8 @@ element_choice-returns-then-not-range_ok t c = search (choice_out)
 pub element_choice-returns-then-counts_once : goal.element_choice-returns-then-counts_once
 element_choice-returns-then-counts_once t c = search (choice_counts_once)
 
-pub element_choice-choice_marks-marks-requires : goal.element_choice-choice_marks-marks-requires
-element_choice-choice_marks-marks-requires t c = (omega arith, search own_is_element)
+pub element_choice-choice_marks-requires : goal.element_choice-choice_marks-requires
+element_choice-choice_marks-requires t c = (omega arith, search own_is_element)
 
 pub element_choice-returns : goal.element_choice-returns
 element_choice-returns t c = search own_choice_mark
@@ -221,8 +222,8 @@ marks::element_marks-returns-in_default t c = all_both c.args.paper.now c.args.d
 pub element_sequence-returns-then-counts_once : goal.element_sequence-returns-then-counts_once
 element_sequence-returns-then-counts_once t c = search sequence_counts_once
 
-pub element_sequence-sequence_marks-marks-requires : goal.element_sequence-sequence_marks-marks-requires
-element_sequence-sequence_marks-marks-requires t c = (omega arith, search own_is_element)
+pub element_sequence-sequence_marks-requires : goal.element_sequence-sequence_marks-requires
+element_sequence-sequence_marks-requires t c = (omega arith, search own_is_element)
 
 pub element_sequence-returns : goal.element_sequence-returns
 element_sequence-returns t c = search own_sequence_mark

@@ -2,5 +2,5 @@
 use Rattle.particle.proofs.Runs.{run_few}
 use Rattle.restriction.proofs.rows.group_all.Goals as goal
 
-pub recurse_unordered-requires-clause-bs_few : goal.recurse_unordered-requires-clause-bs_few
-recurse_unordered-requires-clause-bs_few c = run_few c.args.bs.run
+pub recurse_unordered-requires : goal.recurse_unordered-requires
+recurse_unordered-requires c = rw c.from-then-range_ok.ensures.1 (run_few c.args.bs.run)

@@ -1,5 +1,5 @@
 -- `restriction::left_over` meets its contract. Assumes nothing.
-use Rattle.restriction.proofs.Parts.{step}
+use Rattle.verdicts.proofs.Rest.{step}
 use Rattle.restriction.proofs.LeftOver.{left_start, left_end, left_emptiable, left_fails}
 use Rattle.restriction.proofs.rows.left_over.Goals as goal
 

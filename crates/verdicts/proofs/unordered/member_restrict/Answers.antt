@@ -5,8 +5,8 @@ use Rattle.verdicts.proofs.unordered.member_restrict.Goals as goal
 pub returns-then-head-ne-ELEMENT : goal.returns-then-head-ne-ELEMENT
 returns-then-head-ne-ELEMENT c = search not_element
 
-pub returns-in-Nothing : goal.returns-in-Nothing
-returns-in-Nothing c = search not_in_base
+pub returns-in-None : goal.returns-in-None
+returns-in-None c = search not_in_base
 
-pub returns-in-Element : goal.returns-in-Element
-returns-in-Element c = search in_base
+pub returns-in-Some : goal.returns-in-Some
+returns-in-Some c = search in_base

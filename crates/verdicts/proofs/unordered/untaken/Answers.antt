@@ -1,37 +1,31 @@
 -- `unordered::untaken` meets its contract: an item that is taken or of minimum 0 is passed. Assumes nothing.
-use mathlib.Core.Bool.{false, not}
+use mathlib.Core.Bool.{true, false}
 use mathlib.Core.Logic.{◌⊎◌, inl, inr}
-use mathlib.Core.Path.{◌≡◌, ap}
-use lib.ListN.{get_or}
+use mathlib.Core.Path.{◌≡◌}
 use Prim.Native.Nat.{◌≤◌}
-use Rattle.verdicts.proofs.Rest.{first, whole_record, run_fits}
-use Rattle.verdicts.proofs.BaseLoops.{seek, seek_on, untaken_here, none_required}
+use lib.ListN.{get_or}
+use Rattle.verdicts.proofs.Rest.{step}
+use Rattle.verdicts.proofs.BaseLoops.{seek, seek_flagged, seek_on, untaken_here, none_required}
 use Rattle.verdicts.proofs.unordered.untaken.Goals as goal
-use Rattle.verdicts.proofs.unordered.untaken.Goals.{then-head-gt0+else-not-matched-i, else-head-gt0}
+use Rattle.verdicts.proofs.unordered.untaken.Goals.{else-record-gt0-via-then-record-gt0+else-not-matched-i, else-record-gt0-via-else-record-gt0}
 
-pub loop-i-init : goal.loop-i-init
-loop-i-init c = search seek
+pub loop-b-init : goal.loop-b-init
+loop-b-init c = rw c.into_iter-b-iterator.ensures.into_iter_gives (seek _ _ _ c.args.bs.row)
 
-pub record_at-head-requires : goal.record_at-head-requires
-record_at-head-requires c = search whole_record
+pub bounds-matched-i : goal.bounds-matched-i
+bounds-matched-i c = search (seek_flagged, step c.in-Some.ensures.steps)
 
 pub returns-then-not-matched-i : goal.returns-then-not-matched-i
-returns-then-not-matched-i c = search untaken_here
+returns-then-not-matched-i c = search (untaken_here, step c.in-Some.ensures.steps)
 
-pub run_len-k-requires : goal.run_len-k-requires
-run_len-k-requires c = search first
-
-pub slice_bounds-rest-count : goal.slice_bounds-rest-count
-slice_bounds-rest-count c = search run_fits
-
-pub slice_bounds-rest-start : goal.slice_bounds-rest-start
-slice_bounds-rest-start c = search run_fits
-
-pub loop-i-preserved : goal.loop-i-preserved
-loop-i-preserved c =
-    let o : (c.record_at-head.result.min ≤ 0) ⊎ (not (get_or c.args.matched.now c.loop-i.i false) ≡ false) =
-    elim c.if-head-gt0.branch [ then-head-gt0+else-not-matched-i w ↦ inr (ap not w.if-not-matched-i.false) | else-head-gt0 w ↦ inl w.if-head-gt0.false ] in
-    search seek_on
+pub loop-b-preserved : goal.loop-b-preserved
+loop-b-preserved c =
+    let o : (c.record.result.min ≤ 0) ⊎ (get_or c.args.matched.now c.loop-b.i false ≡ true) =
+    elim c.else-record-gt0.branch [
+      | else-record-gt0-via-then-record-gt0+else-not-matched-i w ↦ inr w.if-not-matched-i.false
+      | else-record-gt0-via-else-record-gt0 w ↦ inl w.if-record-gt0.false
+    ] in
+    search (seek_on, step c.in-Some.ensures.steps)
 
 pub returns : goal.returns
-returns c = search none_required
+returns c = search (none_required, c.in-None.ensures.steps)
