@@ -60,17 +60,17 @@ fn sum_of(t: &[u8], n: usize, measured: bool) -> TotalRange
         let item = items;
         items = particle::after(item, measured);
         let head = particle::record_at(item);
-        let total = if head.kind < particle::SEQUENCE {
-            TotalRange::from(particle::range(head))
+        if head.kind < particle::SEQUENCE {
+            sum = sum + TotalRange::from(particle::range(head));
         } else {
-            effective_total_range(item, measured)
-        };
-        sum = sum + total;
+            sum = sum + effective_total_range(item, measured);
+        }
     }
     sum
 }
 
 // Choice: the least minimum and the greatest maximum among the total ranges of the first n trees of t, in the same way, from the first tree's on.
+// Not one function with sum_of: for both a trait with three ghost words, a law and two empty types is longer than the two loops.
 #[cycle(total)]
 fn span_of(t: &[u8], n: usize, measured: bool) -> TotalRange
     requires row { Row n t.now }
@@ -86,12 +86,11 @@ fn span_of(t: &[u8], n: usize, measured: bool) -> TotalRange
         let item = items;
         items = particle::after(item, measured);
         let head = particle::record_at(item);
-        let total = if head.kind < particle::SEQUENCE {
-            TotalRange::from(particle::range(head))
+        if head.kind < particle::SEQUENCE {
+            span = span.span(TotalRange::from(particle::range(head)));
         } else {
-            effective_total_range(item, measured)
-        };
-        span = span.span(total);
+            span = span.span(effective_total_range(item, measured));
+        }
     }
     span
 }

