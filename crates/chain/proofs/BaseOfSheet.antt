@@ -4,7 +4,6 @@ use mathlib.Core.Bool.{Bool, true, false, cond}
 use mathlib.Core.List.{List}
 use mathlib.Core.Path.{◌≡◌, ap, sym, ◌∙◌}
 use Prim.Native.Nat.{ℕ, suc}
-use native.Mathlib.Omega.{arith}
 use Rattle.particle.specs.Tree.{Head, element, wildcard, sequence, choice, all, Items, none as no_items, item, Particle, single, tree}
 use Rattle.particle.specs.Encode.{encode}
 use Rattle.particle.proofs.Encoded.{encoded_tree}
@@ -27,7 +26,7 @@ use Rattle.chain.proofs.Joined.{tree_fits}
 use Rattle.chain.proofs.Written.{given, written_is, joined_fits_leaves, joined_accepted}
 
 -- a sheet whose base tree is accepted, by what its other checks find
-no_base : (c l v : Bool) (d : Result (Unit {0}) Fault) (f : Fault) → cond c (cond l (cond v (or_else Derived d (Ok tt)) (Err Verdict)) (Err Leaf)) (Err Contents) ≡ Err (Base f) → ◌≡◌ {A = ℕ} 0 1
+no_base : (c l v : Bool) (d : Result (Unit {0}) Fault) (f : Fault) → cond c (cond l (cond v (or_else Derived d (Ok tt)) (Err Verdict)) (Err Leaf)) (Err Contents) ≡ Err (Base f) → ⊥
 no_base true true true (Ok tt) f e = cc
 no_base true true true (Err g) f e = cc
 no_base true true false d f e = cc
@@ -37,8 +36,7 @@ no_base false l v d f e = cc
 base_passed : (s : List ℕ) → AcceptedIn (known_in s) (base_part s) → (f : Fault) → ¬ (sheet_refusal s ≡ Err (Base f))
 unfolding sheet_refusal
 base_passed s a f e =
-    let z = no_base (contents_ok s) (leaves_ok (leaf_list s)) (verdicts_ok (tables_part s)) (refusal_in (known_in s) (derived_part s)) f (rw a at e) in
-    omega arith
+    no_base (contents_ok s) (leaves_ok (leaf_list s)) (verdicts_ok (tables_part s)) (refusal_in (known_in s) (derived_part s)) f (rw a at e)
 
 pub joined_base : JoinedBase
 joined_base c out n g s p a = (base_passed s (rw p (joined_fits_leaves c out n g (known_in s) a)), rw p (joined_accepted c out n g).1)

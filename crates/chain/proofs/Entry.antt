@@ -143,7 +143,7 @@ module _ (c out : List ℕ) {ok : Bool} (e : ok ≡ chain_ok c) where
         level_refused = go r refl m
           where
             go : (q : Result (Unit {0}) Fault) → r ≡ q → MatchResult q (λ x. ◌≡◌ {A = Result (Unit {0}) Refusal} (Err d) (Ok x)) (λ g. d ≡ Derived g) → refused (refusal_number d) ≡ chain_answer c out
-            go (Ok x) e m = absurd (let z : ◌≡◌ {A = ℕ} 0 1 = cc in omega arith)
+            go (Ok x) e m = cc
             go (Err g) e m = rw m (sym (after_levels_lem ∙ rw e))
 
         pub level_refused_kept : out ≡ chain_buffer c out

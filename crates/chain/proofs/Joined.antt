@@ -1,6 +1,6 @@
 -- The tree that a chain's accepted levels join to, and when the check of a tree alone accepts its bytes. Assumes nothing.
 use Rattle.std.specs.Prelude.{Ok}
-use mathlib.Core.Bool.{Bool, true, false, ◌||◌, true≢false}
+use mathlib.Core.Bool.{true, false}
 use mathlib.Core.List.{List, [], ◌∷◌, map, flat_map, flatten}
 use mathlib.Core.Option.{none, some}
 use mathlib.Core.Path.{◌≡◌, refl, ap, sym, ◌∙◌}
@@ -9,6 +9,7 @@ use native.Mathlib.Omega.{arith}
 use lib.Dec.{ltb}
 use lib.ListN.{length, length-map}
 use borrow.Author.Tests.{ltb-false, le-ltb}
+use Rattle.std.proofs.lemmas.Bool.{or_parts, true_from_ne_false}
 use Rattle.particle.specs.Record.{record_size, max_records}
 use Rattle.particle.specs.Tree.{Particle, single, size_i, tree}
 use Rattle.particle.specs.Encode.{encode, Bytes}
@@ -35,13 +36,9 @@ use Rattle.entries.proofs.Shallow.{accepted_shallow}
 
 -- The limits ---------------------------------------------------------------------------
 
-neither : (a b : Bool) → (a || b) ≡ false → (a ≡ false) × (b ≡ false)
-neither true b e = absurd (true≢false e)
-neither false b e = (refl, e)
-
 pub within : (x : Particle) → over_limits x ≡ false → (size_i (single x) ≤ max_records) × (depth_of (single x) ≤ max_depth)
 within x e =
-    let n = neither (ltb max_records (size_i (single x))) (ltb max_depth (depth_of (single x))) e in
+    let n = or_parts (ltb max_records (size_i (single x))) (ltb max_depth (depth_of (single x))) e in
     (ltb-false max_records (size_i (single x)) n.0, ltb-false max_depth (depth_of (single x)) n.1)
 
 pub not_over : (x : Particle) → size_i (single x) ≤ max_records → depth_of (single x) ≤ max_depth → over_limits x ≡ false
@@ -49,11 +46,7 @@ not_over x s d = rw (le-ltb max_records (size_i (single x)) s, le-ltb max_depth 
 
 -- where it cannot be that no limit is broken, one is
 pub one_broken : (x : Particle) → (over_limits x ≡ false → ⊥) → over_limits x ≡ true
-one_broken x h = go (over_limits x) h
-  where
-    go : (b : Bool) → (b ≡ false → ⊥) → b ≡ true
-    go true h = refl
-    go false h = absurd (h refl)
+one_broken x h = true_from_ne_false (over_limits x) h
 
 -- what is accepted breaks no limit
 pub accepted_within : (known : Known) (x : Particle) → AcceptedIn known (encode (single x)) → over_limits x ≡ false
@@ -85,8 +78,7 @@ joined_from c {x} e = go (present (levels c)) refl
     go : (ts : List (List ℕ)) → present (levels c) ≡ ts → (t : List ℕ) × (ts : List (List ℕ)) × (present (levels c) ≡ t ∷ ts) × (x ≡ join_all (tree t) (map tree ts))
     go [] p =
         let n = joined_absent c p in
-        let z : ◌≡◌ {A = ℕ} 0 1 = cc in
-        absurd (omega arith)
+        cc
     go (t ∷ ts) p =
         let i = joined_is c p in
         (t, ts, p, cc)

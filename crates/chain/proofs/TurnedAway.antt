@@ -6,7 +6,6 @@ use mathlib.Core.Logic.{inl, inr, ⊎_elim, ◌↔◌}
 use mathlib.Core.Option.{Option, none, some}
 use mathlib.Core.Path.{◌≡◌, refl, sym, ◌∙◌}
 use Prim.Native.Nat.{ℕ}
-use native.Mathlib.Omega.{arith}
 use lib.Dec.{ltb}
 use borrow.Author.Tests.{ltb-true, lt-ltb}
 use Rattle.particle.specs.Record.{max_records}
@@ -47,8 +46,8 @@ all_absent : (c out : List ℕ) → chain_ok c ≡ true → present (levels c) �
 all_absent c out k p = of_levels c out k (absent_accepted (levels c) p) ∙ rw (joined_absent c p)
 
 -- two refusals are told apart by their numbers
-apart : (r q : Refusal) → (r ≡ q → ◌≡◌ {A = ℕ} 0 1) → ◌≡◌ {A = Answer (Option ℕ)} (refused (refusal_number r)) (refused (refusal_number q)) → ⊥
-apart r q d e = let z = d (one_refusal r q cc) in omega arith
+apart : (r q : Refusal) → (r ≡ q → ⊥) → ◌≡◌ {A = Answer (Option ℕ)} (refused (refusal_number r)) (refused (refusal_number q)) → ⊥
+apart r q d e = d (one_refusal r q cc)
 
 pub limit_exactly : LimitExactly
 limit_exactly c out = (go (reached c out), back)
@@ -95,8 +94,7 @@ no_content_exactly c out = (go (reached c out), λ (k, p). all_absent c out k p)
     none_present i [] p = refl
     none_present i (t ∷ ts) p =
         let j = joined_is c p in
-        let z : ◌≡◌ {A = ℕ} 0 1 = cc in
-        absurd (omega arith)
+        cc
 
     go : {a : Answer (Option ℕ)} → Reached c out a → a ≡ gives none → (chain_ok c ≡ true) × (present (levels c) ≡ [])
     go (no_chain k) e = absurd (not_given e)
@@ -104,7 +102,7 @@ no_content_exactly c out = (go (reached c out), λ (k, p). all_absent c out k p)
     go (no_content s i) e = (s.ok, none_present i (present (levels c)) refl)
     go (too_large s i l) e = absurd (not_given e)
     go (too_short s i l) e = absurd (not_given e)
-    go (joins s i l r) e = let z : ◌≡◌ {A = ℕ} 0 1 = cc in absurd (omega arith)
+    go (joins s i l r) e = cc
 
 pub nothing_written : NothingWritten
 unfolding chain_buffer

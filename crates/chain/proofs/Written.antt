@@ -33,7 +33,7 @@ pub record Given (c : List ℕ) (n : ℕ) (x : Particle) : Type 0 where
   pub count : n ≡ size_i (single x)
 
 pub not_given : {n : ℕ} {o : Option ℕ} → refused n ≡ gives o → ⊥
-not_given e = let z : ◌≡◌ {A = ℕ} 0 1 = cc in omega arith
+not_given e = cc
 
 pub given : (c out : List ℕ) (n : ℕ) → chain_answer c out ≡ gives (some n) → (x : Particle) × Given c n x
 given c out n = go (reached c out)
@@ -41,7 +41,7 @@ given c out n = go (reached c out)
     go : {a : Answer (Option ℕ)} → Reached c out a → a ≡ gives (some n) → (x : Particle) × Given c n x
     go (no_chain k) e = absurd (not_given e)
     go (bad_tree k f) e = absurd (not_given e)
-    go (no_content s i) e = let z : ◌≡◌ {A = ℕ} 0 1 = cc in absurd (omega arith)
+    go (no_content s i) e = cc
     go (too_large s i l) e = absurd (not_given e)
     go (too_short s i l) e = absurd (not_given e)
     go (joins {x} s i l r) e = (x, record { sound = s; is = i; within = l; count = cc })

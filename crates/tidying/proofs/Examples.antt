@@ -102,7 +102,7 @@ maybe_empty = S (pair 0 1) (single (C once none))
 pub fourth_needed : BelowOutside NoZeroMaximum maybe_empty × Outside NoOwnKind maybe_empty × Outside NoLoneItem maybe_empty × (¬ (tidy maybe_empty ≡ maybe_empty))
 unfolding tidy tidy_items size_i count_i
 fourth_needed = (
-  λ _. ((λ e. let n : ◌≡◌ {A = ℕ} 1 0 = cc in omega arith, λ _. tt), tt),
+  λ _. ((λ e. cc, λ _. tt), tt),
   ((λ _. (λ k. absurd (omega arith), tt), λ _. ((λ _. tt, λ _. tt), tt)), tt),
   ((λ _ o. absurd (not_once o), λ _. ((λ _ _ e. absurd (none_counted e), λ _. tt), tt)), tt),
   λ e. let n : ◌≡◌ {A = ℕ} 1 2 = ap (λ (x : Particle). size_i (single x)) e in omega arith,

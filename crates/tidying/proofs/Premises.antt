@@ -1,7 +1,5 @@
 -- What holds of each record of a tree and still holds of each record of the tidied tree: the premises of demand 3 among it. Assumes nothing.
 use mathlib.Core.Path.{◌≡◌, refl, subst}
-use Prim.Native.Nat.{ℕ}
-use native.Mathlib.Omega.{arith}
 use Rattle.particle.specs.declared.Occurs.{Occurs}
 use Rattle.particle.specs.Occurs.{exactly}
 use Rattle.particle.specs.Tree.{Head, sequence, choice, Items, none, item, Particle, pair_of, ◌then◌}
@@ -63,7 +61,7 @@ tidy_ordered = tidy_heads (λ h. Ordered h none) (λ p a b. a)
 -- No empty choice, where there is no zero maximum ------------------------------------------
 
 pub item_some : (h : Head) (k r : Items) → ¬ (item h k r ≡ none)
-item_some h k r e = let z : ◌≡◌ {A = ℕ} 0 1 = cc in omega arith
+item_some h k r e = cc
 
 pub then_some : (x y : Items) → ¬ (x ≡ none) → ¬ (x then y ≡ none)
 unfolding ◌then◌

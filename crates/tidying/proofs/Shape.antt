@@ -1,8 +1,9 @@
 -- The shape of a tidy tree, sentence by sentence, and that tidying leaves alone just the trees of that shape (document 02 §8). Assumes nothing.
-use mathlib.Core.Bool.{Bool, true, false, false≢true}
+use mathlib.Core.Bool.{true, false, false≢true}
 use mathlib.Core.Logic.{◌↔◌}
 use mathlib.Core.Path.{◌≡◌, refl, ap, sym, ◌∙◌, subst}
 use native.Mathlib.Omega.{arith}
+use Rattle.std.proofs.lemmas.Bool.{false_from_ne_true}
 use Rattle.particle.specs.declared.MaxOccurs.{MaxOccurs}
 use Rattle.particle.specs.declared.MaxOccurs.TheVariants.{Bounded}
 use Rattle.particle.specs.declared.Occurs.{Occurs}
@@ -14,20 +15,15 @@ use Rattle.language.proofs.Rounds.{once_is}
 use Rattle.tidying.specs.Tidy.{splices, takes_pair, tidy}
 use Rattle.tidying.specs.TidyTree.{Group, EachItem, EveryOutside, Outside, BelowOutside, Once, NoOwnKind, NoLoneItem, NoLoneChoice, TidyTree}
 use Rattle.tidying.proofs.Steps.{group_cases, splices_cases, takes_cases, zero_is}
-use Rattle.tidying.proofs.TidyTrees.{NoZero, TidyGroup, TidyItems, EachTidy, not_both, tidied_each, each_same}
+use Rattle.tidying.proofs.TidyTrees.{NoZero, TidyGroup, TidyItems, EachTidy, tidied_each, each_same}
 
 -- Tests and what they say ------------------------------------------------------------------------
-
--- a test that can't hold
-refuted : (c : Bool) → ¬ (c ≡ true) → c ≡ false
-refuted true n = absurd (n refl)
-refuted false n = refl
 
 not_zero : (m : MaxOccurs) → is_zero m ≡ false → ¬ (m ≡ Bounded 0)
 not_zero m f e = false≢true (sym f ∙ ap is_zero e)
 
 zero_refuted : (m : MaxOccurs) → ¬ (m ≡ Bounded 0) → is_zero m ≡ false
-zero_refuted m n = refuted (is_zero m) (λ t. n (zero_is m t))
+zero_refuted m n = false_from_ne_true (is_zero m) (λ t. n (zero_is m t))
 
 once_holds : (p : Occurs) → p ≡ exactly 1 → is_once p ≡ true
 once_holds p e = ap is_once e
@@ -71,7 +67,7 @@ zero_outside none z a = tt
 zero_outside (item h k r) (z, zs) a = ((not_zero (pair_of h).max z, λ s. zero_outside k (a.0 s).0.no_zero (a.0 s).1), zero_outside r zs a.1)
 
 own_kind : (g : Head) (k : Items) → (Group g → TidyGroup g k) → NoOwnKind g k
-own_kind g k a s = each_map (λ h f e o. not_both (splices g h) (own_splices g s h e o) f) k (a s).no_own
+own_kind g k a s = each_map (λ h f e o. cc (own_splices g s h e o)) k (a s).no_own
 
 lone_item : (g : Head) (k : Items) → (Group g → TidyGroup g k) → NoLoneItem g k
 lone_item g k a s o = (a s).not_alone (once_holds (pair_of g) o)
@@ -106,9 +102,9 @@ zero_heads (item h k r) ((z, b), zs) = (zero_refuted (pair_of h).max z, zero_hea
 tidy_group : (g : Head) → Group g → (k : Items) → EveryOutside NoZeroMaximum k → NoOwnKind g k → NoLoneItem g k → NoLoneChoice g k → TidyGroup g k
 tidy_group g s k z a b c = record {
   no_zero = zero_heads k z;
-  no_own = each_map (λ h n. refuted (splices g h) (λ t. let o = splices_own g h t in n o.0 o.1)) k (a s);
+  no_own = each_map (λ h n. false_from_ne_true (splices g h) (λ t. let o = splices_own g h t in n o.0 o.1)) k (a s);
   not_alone = λ t. b s (once_is (pair_of g) t);
-  not_paired = λ h t i. refuted (takes_pair g h) (λ e. takes_cases (λ (g h : Head). k ≡ item h t none → NoLoneChoice g k → ⊥) (λ q p o i c. c q t refl (i ∙ ap (λ (p : Occurs). item (choice p) t none) (once_is p o))) g h e i c);
+  not_paired = λ h t i. false_from_ne_true (takes_pair g h) (λ e. takes_cases (λ (g h : Head). k ≡ item h t none → NoLoneChoice g k → ⊥) (λ q p o i c. c q t refl (i ∙ ap (λ (p : Occurs). item (choice p) t none) (once_is p o))) g h e i c);
 }
 
 tidy_each : (x : Items) → ZeroBelow x → EveryOutside NoOwnKind x → EveryOutside NoLoneItem x → EveryOutside NoLoneChoice x → TidyItems x

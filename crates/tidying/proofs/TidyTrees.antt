@@ -1,7 +1,6 @@
 -- Tidy trees group by group, in the words of tidying's own tests: what tidying gives is such a tree, and such a tree it leaves as it is. Assumes nothing.
-use mathlib.Core.Bool.{Bool, true, false, false≢true}
-use mathlib.Core.Path.{◌≡◌, refl, ap, ap₂, sym, ◌∙◌}
-use Prim.Native.Nat.{ℕ}
+use mathlib.Core.Bool.{true, false}
+use mathlib.Core.Path.{◌≡◌, refl, ap, ap₂, ◌∙◌}
 use native.Mathlib.Omega.{arith}
 use Rattle.particle.specs.Occurs.{is_zero, is_once}
 use Rattle.particle.specs.Tree.{Head, choice, Items, none, item, Particle, pair_of, single, count_i, ◌then◌}
@@ -67,27 +66,20 @@ keep_kept g x rest a s =
 tidy_group : (g : Head) (t : Items) → KeptTidy g t → (is_once (pair_of g) ≡ true → ¬ (count_i t ≡ 1)) → ((h : Head) (k : Items) → t ≡ item h k none → takes_pair g h ≡ false) → TidyGroup g t × TidyItems t
 tidy_group g t s a b = (record { no_zero = s.no_zero; no_own = s.no_own; not_alone = a; not_paired = b }, s.tidy_ones)
 
-pub not_both : (c : Bool) → c ≡ true → c ≡ false → ⊥
-not_both true e f = false≢true (sym f)
-not_both false e f = false≢true e
-
-none_item : (h : Head) (k r : Items) → ¬ (none ≡ item h k r)
-none_item h k r e = let z : ◌≡◌ {A = ℕ} 0 1 = cc in omega arith
-
 lone_tidy : (g h : Head) (k : Items) → KeptTidy g (item h k none) → is_once (pair_of g) ≡ false → EachTidy (lone g h k)
 unfolding TidyItems
 lone_tidy g h k a n =
     branch EachTidy (takes_pair g h) (record { head = choice (pair_of g); items = k }) (record { head = g; items = item h k none })
     (λ e. takes_cases (λ (g h : Head). is_once (pair_of g) ≡ false → TidyItems (item h k none) → EachTidy (record { head = choice (pair_of g); items = k }))
-    (λ q p o n a. let b = a.0 tt in (λ _. (record { no_zero = b.0.no_zero; no_own = b.0.no_own; not_alone = λ e. absurd (not_both (is_once q) e n); not_paired = λ h t e. refl }, b.1), tt)) g h e n a.tidy_ones)
-    (λ e. (λ _. tidy_group g (item h k none) a (λ o. absurd (not_both (is_once (pair_of g)) o n)) (λ h' t i. let f : h ≡ h' = cc in rw f at e), tt))
+    (λ q p o n a. let b = a.0 tt in (λ _. (record { no_zero = b.0.no_zero; no_own = b.0.no_own; not_alone = λ e. cc; not_paired = λ h t e. refl }, b.1), tt)) g h e n a.tidy_ones)
+    (λ e. (λ _. tidy_group g (item h k none) a (λ o. cc) (λ h' t i. let f : h ≡ h' = cc in rw f at e), tt))
 
 closed_tidy : (g : Head) (t : Items) → KeptTidy g t → EachTidy (closed g t)
 unfolding TidyItems count_i
-closed_tidy g none a = (λ _. tidy_group g none a (λ o e. omega arith) (λ h k e. absurd (none_item h k none e)), tt)
+closed_tidy g none a = (λ _. tidy_group g none a (λ o e. omega arith) (λ h k e. cc), tt)
 closed_tidy g (item h k none) a = branch EachTidy (is_once (pair_of g)) (record { head = h; items = k }) (lone g h k) (λ _. a.tidy_ones) (lone_tidy g h k a)
 closed_tidy g (item h k (item h' k' r)) a =
-    (λ _. tidy_group g (item h k (item h' k' r)) a (λ o e. omega arith) (λ h'' t e. absurd (none_item h' k' r (cc))), tt)
+    (λ _. tidy_group g (item h k (item h' k' r)) a (λ o e. omega arith) (λ h'' t e. cc), tt)
 
 settle_tidy : (h : Head) (k t : Items) → (Group h → KeptTidy h t) → EachTidy (settle h k t)
 unfolding TidyItems
@@ -110,7 +102,7 @@ unfolding count_i
 closed_same g t a =
     closed_cases (λ (x : Particle). x ≡ record { head = g; items = t }) g t refl
     (λ h k e o. absurd (a.not_alone o (ap count_i e)))
-    (λ h k e p. absurd (not_both (takes_pair g h) p (a.not_paired h k e)))
+    (λ h k e p. cc (p, a.not_paired h k e))
 
 settle_same : (h : Head) (k : Items) → (Group h → TidyGroup h k × (tidy_items h k ≡ k)) → settle h k (tidy_items h k) ≡ record { head = h; items = k }
 settle_same h k f = settle_cases (λ (x : Particle). x ≡ record { head = h; items = k }) h k (tidy_items h k) (λ _. refl) (λ s. ap (closed h) (f s).1 ∙ closed_same h k (f s).0)
