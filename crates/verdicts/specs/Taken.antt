@@ -26,7 +26,7 @@ has_name L name (all q) = false
 -- what `take_named` answers, and the items that it leaves untaken
 abbrev pub found_of : Option (ℕ × Occurs) → (others : Items) → Found
 found_of None others = absent
-found_of (Some found_here) others = found found_here.0 found_here.1 others
+found_of (Some e) others = found e.0 e.1 others
 
 -- v is the mark of a derived item of head h against the base items: this mark, and then the later items against what it leaves untaken, is the mark of all.
 -- The flags were fs and are es.

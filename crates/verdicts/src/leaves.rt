@@ -18,7 +18,7 @@ pub struct Paper<'a> {
 }
 
 // The byte at place i; d where there is none.
-pub fn byte_or(s: &[u8], i: usize, d: u8) -> u8
+fn byte_or(s: &[u8], i: usize, d: u8) -> u8
     ensures { result ≡ get_or s.now i d }
 {
     s.get(i).copied().unwrap_or(d)
@@ -80,7 +80,7 @@ impl Paper<'_> {
     }
 
     // A leaf's local name number.
-    pub fn local_name(&self, l: u8) -> u32
+    pub(crate) fn local_name(&self, l: u8) -> u32
         ensures { result ≡ (paper_leaves self.now).local_name l }
     {
         let at = LEAF_SIZE * (l as usize);
