@@ -19,8 +19,8 @@ use Rattle.types.specs.Fill.{is_element, leaf_kinds, types_ok, fill_verdict, fil
 pub one_for_each : (parents kinds types : List ℕ) → types_ok parents kinds types ≡ true → length types ≡ length kinds
 unfolding types_ok
 one_for_each parents [] [] e = refl
-one_for_each parents [] (t ∷ ts) e = absurd (let z : ◌≡◌ {A = ℕ} 0 1 = cc in omega arith)
-one_for_each parents (k ∷ ks) [] e = absurd (let z : ◌≡◌ {A = ℕ} 0 1 = cc in omega arith)
+one_for_each parents [] (t ∷ ts) e = cc
+one_for_each parents (k ∷ ks) [] e = cc
 one_for_each parents (k ∷ ks) (t ∷ ts) e = ap suc (one_for_each parents ks ts (and-true (not (is_element k) || has_type parents t) _ e).1)
 
 -- The second table of a sheet whose contents are in order -------------------------

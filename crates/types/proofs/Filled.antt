@@ -4,7 +4,6 @@ use mathlib.Core.Bool.{Bool, true, false, cond}
 use mathlib.Core.List.{List, ◌++◌}
 use Prim.Native.Nat.{ℕ, ◌+◌, ◌*◌}
 use native.Mathlib.Nat.{zero-add}
-use native.Mathlib.Omega.{arith}
 use lib.ListN.{length, get_or, take, drop}
 use Rattle.entries.specs.Answer.{Answer, gives, refused}
 use Rattle.intake.specs.declared.Refusal.{Refusal}
@@ -25,8 +24,8 @@ use Rattle.types.proofs.FilledIn.{front, middle, back, filled_in}
 
 fills_accepted : (n : ℕ) (table : Bool) (c : Result (Unit {0}) Refusal) (ok : Bool) → cond table (fill_or c ok) (refused n) ≡ gives tt → c ≡ Ok tt
 fills_accepted n table (Ok _) ok e = refl
-fills_accepted n true (Err r) ok e = absurd (let z : ◌≡◌ {A = ℕ} 0 1 = cc in omega arith)
-fills_accepted n false (Err r) ok e = absurd (let z : ◌≡◌ {A = ℕ} 0 1 = cc in omega arith)
+fills_accepted n true (Err r) ok e = cc
+fills_accepted n false (Err r) ok e = cc
 
 written_by : (parents s types : List ℕ) → Fills parents s types → filled_sheet parents s types ≡ fill_sheet parents s types
 unfolding filled_sheet

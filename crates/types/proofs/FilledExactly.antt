@@ -32,7 +32,7 @@ leaf_kind l e = go (eqb l.kind 0) (eqb l.kind 1) _ _ refl refl e
     go : (x y p q : Bool) → eqb l.kind 0 ≡ x → eqb l.kind 1 ≡ y → (x && p || y && q) ≡ true → (l.kind ≡ 0) ⊎ (l.kind ≡ 1)
     go true y p q a b t = inl (eqb-true l.kind 0 a)
     go false true p q a b t = inr (eqb-true l.kind 1 b)
-    go false false p q a b t = absurd (let z : ◌≡◌ {A = ℕ} 0 1 = cc in omega arith)
+    go false false p q a b t = cc
 
 kinds_known : (ls : List Leaf) → every leaf_ok ls ≡ true → (i : ℕ) → (get_or (kinds_of ls) i 0 ≡ 0) ⊎ (get_or (kinds_of ls) i 0 ≡ 1)
 unfolding every kinds_of

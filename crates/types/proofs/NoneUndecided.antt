@@ -1,13 +1,14 @@
 -- Once a sheet is filled, no two elements are undecided in its second table, as the marking reads it. Assumes nothing.
 use mathlib.Core.Path.{◌≡◌, refl, ap, sym, ◌∙◌}
 use mathlib.Core.Bool.{Bool, true, false}
-use mathlib.Core.List.{List, [], ◌∷◌}
+use mathlib.Core.List.{List}
 use mathlib.Core.Logic.{inr}
 use Prim.Native.Nat.{ℕ, zero, suc, ◌+◌, ◌*◌, ◌≤◌, ◌<◌}
 use native.Mathlib.Nat.{mul-le-mul_right, suc-mul}
 use native.Mathlib.Omega.{arith}
 use lib.Dec.{eqb}
 use lib.ListN.{length, get_or, drop}
+use Rattle.std.proofs.lemmas.List.{get_or_default}
 use lib.Seq.{get_or-take, get_or-drop}
 use borrow.Author.Tests.{eqb-true, eqb-false}
 use Rattle.rules.specs.Verdicts.{undecided}
@@ -25,12 +26,6 @@ use Rattle.types.proofs.FilledExactly.{verdicts_stay, elements_filled}
 
 -- The verdict of two leaves, as the marking reads it ---------------------------------------
 
--- within a list the value for what is missing does not matter
-get_d_within : (t : List ℕ) (i c d : ℕ) → i < length t → get_or t i c ≡ get_or t i d
-get_d_within [] i c d h = absurd (omega arith)
-get_d_within (v ∷ t) zero c d h = refl
-get_d_within (v ∷ t) (suc i) c d h = get_d_within t i c d (omega arith)
-
 cell_within : (n l m : ℕ) → l < n → m < n → l * n + m < n * n
 cell_within n l m h g = omega (arith, mul-le-mul_right n h, suc-mul l n)
 
@@ -43,13 +38,13 @@ second_read s w l m h g =
     get_or-take (2 * (n * n)) (drop (tables_at n) s) (n * n + l * n + m) 1 (omega arith)
     ∙ (get_or-drop (tables_at n) s (n * n + l * n + m) 1
     ∙ (ap (λ (i : ℕ). get_or s i 1) place
-    ∙ (get_d_within s (second_at n + (l * n + m)) 1 0 (omega arith)
+    ∙ (get_or_default s (second_at n + (l * n + m)) 1 0 (omega arith)
     ∙ sym (get_or-take (n * n) (drop (second_at n) s) (l * n + m) 0 c ∙ get_or-drop (second_at n) s (l * n + m) 0))))
 
 undecided_is : (v : ℕ) → verdict_of v ≡ undecided → v ≡ 1
-undecided_is zero e = absurd (let z : ◌≡◌ {A = ℕ} 0 1 = cc in omega arith)
+undecided_is zero e = cc
 undecided_is (suc zero) e = refl
-undecided_is (suc (suc v)) e = absurd (let z : ◌≡◌ {A = ℕ} 0 1 = cc in omega arith)
+undecided_is (suc (suc v)) e = cc
 
 module _ (parents s types : List ℕ) (e : Fills parents s types) (l m : ℕ) (h : l < leaf_count s) (g : m < leaf_count s) where
   abbrev after : List ℕ

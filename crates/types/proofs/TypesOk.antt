@@ -20,7 +20,7 @@ module _ (parents : List ℕ) where
   each : (kinds types : List ℕ) → types_ok parents kinds types ≡ true → (l : ℕ) → l < length kinds → get_or kinds l 0 ≡ 0 → get_or types l 0 < length parents
   unfolding types_ok
   each [] types e l h z = absurd (omega arith)
-  each (k ∷ ks) [] e l h z = absurd (let y : ◌≡◌ {A = ℕ} 0 1 = cc in omega arith)
+  each (k ∷ ks) [] e l h z = cc
   each (k ∷ ks) (t ∷ ts) e zero h z = known k t (and-true (not (is_element k) || has_type parents t) _ e).0 z
   each (k ∷ ks) (t ∷ ts) e (suc l) h z = each ks ts (and-true (not (is_element k) || has_type parents t) _ e).1 l (omega arith) z
 

@@ -8,7 +8,7 @@ use crate::NOT_DERIVED;
 use crate::table::Table;
 use intake::Refusal;
 
-// The other verdicts that are read and written, as bytes of the sheet.
+// Verdicts are bytes of the sheet, as docs/LAYOUT.md has them; NOT_DERIVED is the third.
 const OK: u8 = 0;
 
 const UNDECIDED: u8 = 1;

@@ -49,6 +49,7 @@ impl<'a> Table<'a> {
     fn derives(&self, derived: usize, base: usize) -> bool
         ensures { result ≡ derives self.now.parents.now derived base }
     {
+        // No count: each turn goes on to the parent.
         let mut current = derived;
         while base < current {
             current = self.parent_of(current);
