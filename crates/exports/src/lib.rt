@@ -54,6 +54,7 @@ pub fn marker_mark(s: &[u8]) -> u32
     }
 }
 
+// No `From`: neither type is this crate's.
 fn total_min_number(m: TotalMin) -> u64
     ensures { result ≡ total_min_number m }
 {
