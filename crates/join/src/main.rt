@@ -5,6 +5,7 @@
 use std::io;
 use streams::ROOM;
 
+// `tidy` reads and prints alike: a function of both would take a closure and what each answer means, for the four lines of a `match`.
 // Both buffers are longer than any chain that is joined, and than any tree; longer input is cut off there, and refused.
 fn main(rt: HostRuntime) -> io::Result<()> {
     let mut buf = [0u8; ROOM];

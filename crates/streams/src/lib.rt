@@ -2,7 +2,7 @@
 // as a number before them says, a tree.
 #![tactic(auto)]
 
-ghost use Rattle.std.specs.Prelude.{◌≡◌, ℕ, true, false, ◌+◌, ◌≤◌, ◌<◌, length, take, IfOk, OnErr};
+ghost use Rattle.std.specs.Prelude.{◌≡◌, ℕ, List, true, false, ◌+◌, ◌≤◌, ◌<◌, length, take, IfOk, OnErr};
 ghost use Rattle.std.specs.Io.KnownBytes.{Consumes, IsAtEnd};
 ghost use Rattle.particle.specs.Record.{half};
 ghost use Rattle.streams.specs.Counts.{IsPrefixLen, GivesNumber, GivesCounted};
@@ -15,7 +15,7 @@ use std::io::Read;
 // sheet, tree and chain.
 pub const ROOM: usize = 65536;
 
-// The number that the two bytes at `at` give, the lower first: a length before a sheet, an item's number, the lengths of a stored case.
+// The number that the two bytes at `at` give, the lower first: a length before a sheet, an item's number.
 pub fn number_at(s: &[u8], at: usize) -> usize
     requires { at + 2 ≤ length s.now }
     ensures value { result ≡ half s.now at }
@@ -49,6 +49,7 @@ pub fn read_full<R: Read>(input: &mut R, buf: &mut [u8]) -> io::Result<usize>
 pub fn read_rest<'a, R: Read>(input: &mut R, buf: &'a mut [u8]) -> io::Result<&'a mut [u8]>
     ensures bytes { IfOk result (λ s. Consumes (R.remaining input.old) (R.remaining input.new) s.now) }
     ensures end { IfOk result (λ s. length s.now < length buf.old → IsAtEnd (R.remaining input.new)) }
+    ensures none_lost { OnErr result ((came : List ℕ) × Consumes (R.remaining input.old) (R.remaining input.new) came) }
 {
     let n = read_full(input, buf)?;
     Ok(&mut buf[..n])
@@ -71,6 +72,7 @@ const NUMBER: usize = 2;
 pub fn read_number<R: Read>(input: &mut R) -> io::Result<usize>
     ensures bytes { IfOk result (GivesNumber (R.remaining input.old) (R.remaining input.new)) }
     ensures upper_bound { IfOk result (λ n. n < 65536) }
+    ensures none_lost { OnErr result ((came : List ℕ) × Consumes (R.remaining input.old) (R.remaining input.new) came) }
 {
     let mut head = [0u8; NUMBER];
     read_full(input, &mut head)?;
@@ -80,7 +82,8 @@ pub fn read_number<R: Read>(input: &mut R) -> io::Result<usize>
 // Reads a number of two bytes from the input, and then so many bytes, and returns these. Input that ends before leaves the rest of them as
 // they were. It fails only where a read does.
 pub fn counted<'a, R: Read>(input: &mut R, buf: &'a mut [u8; ROOM]) -> io::Result<&'a [u8]>
-    ensures { IfOk result (λ s. GivesCounted (R.remaining input.old) (R.remaining input.new) s.now) }
+    ensures bytes { IfOk result (λ s. GivesCounted (R.remaining input.old) (R.remaining input.new) s.now) }
+    ensures none_lost { OnErr result ((came : List ℕ) × Consumes (R.remaining input.old) (R.remaining input.new) came) }
 {
     let n = read_number(input)?;
     let part = &mut buf[..n];
