@@ -81,7 +81,8 @@ pub fn read_number<R: Read>(input: &mut R) -> io::Result<usize>
 
 // Reads a number of two bytes from the input, and then so many bytes, and returns these. Input that ends before leaves the rest of them as
 // they were. It fails only where a read does.
-pub fn counted<'a, R: Read>(input: &mut R, buf: &'a mut [u8; ROOM]) -> io::Result<&'a [u8]>
+pub fn counted<'a, R: Read>(input: &mut R, buf: &'a mut [u8]) -> io::Result<&'a [u8]>
+    requires { 65536 ≤ length buf.old }
     ensures bytes { IfOk result (λ s. GivesCounted (R.remaining input.old) (R.remaining input.new) s.now) }
     ensures none_lost { OnErr result ((came : List ℕ) × Consumes (R.remaining input.old) (R.remaining input.new) came) }
 {
