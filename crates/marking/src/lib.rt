@@ -3,7 +3,7 @@
 
 mod display;
 
-ghost use Rattle.std.specs.Prelude.{◌≡◌, ◌*◌, ◌≤◌};
+ghost use Rattle.std.specs.Prelude.{◌≡◌, Ok};
 ghost use Rattle.particle.specs.Occurs.{is_zero};
 ghost use Rattle.particle.specs.Tree.{pair_of};
 ghost use Rattle.particle.specs.MeasuredTrees.{tree_of};
@@ -74,51 +74,61 @@ fn mark_tidied(d: MeasuredTree, b: MeasuredTree, paper: &Paper) -> Verdict
     restriction::restrict(d, false, b, false, paper)
 }
 
-// The mark of an accepted sheet: both trees are tidied and measured first, in the buffers.
-#[tactic(auto, using(crate::proofs::Marking::contents_ok_lem, crate::proofs::Marking::contents_whole))]
-fn mark_in(s: &[u8], derived: &mut [u8], base: &mut [u8]) -> Verdict
-    requires accepted { sheet_refusal s.now ≡ Ok tt }
-    requires derived_buffer { Buffer (derived_part s.now) derived.old }
-    requires base_buffer { Buffer (base_part s.now) base.old }
-    ensures { mark_of result ≡ mark_of_sheet s.now }
-{
-    let d = tidying::normalize_in(sheet::derived(s), derived);
-    let b = tidying::normalize_in(sheet::base(s), base);
-    particle::measure(&mut derived[..d]);
-    particle::measure(&mut base[..b]);
-    let derived = MeasuredTree {
-        bytes: &derived[..d],
-    };
-    let base = MeasuredTree { bytes: &base[..b] };
-    let paper = Paper {
-        leaves: sheet::leaves(s),
-        tables: sheet::tables(s),
-        n: sheet::leaf_count(s),
-    };
-    mark_tidied(derived, base, &paper)
+// A sheet that the check accepts.
+#[derive(Clone, Copy)]
+struct Accepted<'a> {
+    bytes: &'a [u8],
+    ghost accepted: { sheet_refusal bytes.now ≡ Ok tt },
 }
 
-// The same, with buffers of its own, of N bytes.
-fn mark_with<const N: usize>(s: &[u8]) -> Verdict
-    requires accepted { sheet_refusal s.now ≡ Ok tt }
-    requires fit { BothFit s.now N }
-    ensures { mark_of result ≡ mark_of_sheet s.now }
-{
-    let mut derived = [0u8; N];
-    let mut base = [0u8; N];
-    mark_in(s, &mut derived, &mut base)
-}
+impl Accepted<'_> {
+    // The mark: both trees are tidied and measured first, in the buffers.
+    #[tactic(auto, using(crate::proofs::Marking::contents_ok_lem, crate::proofs::Marking::contents_whole))]
+    fn mark_in(self, derived: &mut [u8], base: &mut [u8]) -> Verdict
+        requires derived_buffer { Buffer (derived_part self.bytes.now) derived.old }
+        requires base_buffer { Buffer (base_part self.bytes.now) base.old }
+        ensures { mark_of result ≡ mark_of_sheet self.entry.bytes.now }
+    {
+        let s = self.bytes;
+        let d = tidying::normalize_in(sheet::derived(s), derived);
+        let b = tidying::normalize_in(sheet::base(s), base);
+        particle::measure(&mut derived[..d]);
+        particle::measure(&mut base[..b]);
+        let derived = MeasuredTree {
+            bytes: &derived[..d],
+        };
+        let base = MeasuredTree { bytes: &base[..b] };
+        let paper = Paper {
+            leaves: sheet::leaves(s),
+            tables: sheet::tables(s),
+            n: sheet::leaf_count(s),
+        };
+        mark_tidied(derived, base, &paper)
+    }
 
-// The same, with buffers as long as the trees ask for.
-#[tactic(auto, using(crate::proofs::Marking::contents_ok_lem))]
-fn mark_accepted(s: &[u8]) -> Verdict
-    requires { sheet_refusal s.now ≡ Ok tt }
-    ensures { mark_of result ≡ mark_of_sheet s.now }
-{
-    match sheet::derived(s).len().max(sheet::base(s).len()) {
-        ..=SHORT => mark_with::<SHORT>(s),
-        ..=MIDDLE => mark_with::<MIDDLE>(s),
-        _ => mark_with::<CAPACITY>(s),
+    // The same, with buffers of its own, of N bytes.
+    fn mark_with<const N: usize>(self) -> Verdict
+        requires { BothFit self.bytes.now N }
+        ensures { mark_of result ≡ mark_of_sheet self.entry.bytes.now }
+    {
+        let mut derived = [0u8; N];
+        let mut base = [0u8; N];
+        self.mark_in(&mut derived, &mut base)
+    }
+
+    // The same, with buffers as long as the trees ask for.
+    #[tactic(auto, using(crate::proofs::Marking::contents_ok_lem))]
+    fn mark(self) -> Verdict
+        ensures { mark_of result ≡ mark_of_sheet self.entry.bytes.now }
+    {
+        match sheet::derived(self.bytes)
+            .len()
+            .max(sheet::base(self.bytes).len())
+        {
+            ..=SHORT => self.mark_with::<SHORT>(),
+            ..=MIDDLE => self.mark_with::<MIDDLE>(),
+            _ => self.mark_with::<CAPACITY>(),
+        }
     }
 }
 
@@ -129,7 +139,7 @@ pub fn mark(s: &[u8]) -> MarkAnswer
     ensures set_in_range { SetInRange result }
 {
     match sheet::check(s) {
-        Ok(()) => MarkAnswer::from(mark_accepted(s)),
+        Ok(()) => MarkAnswer::from(Accepted { bytes: s }.mark()),
         Err(r) => MarkAnswer::Refused(r),
     }
 }

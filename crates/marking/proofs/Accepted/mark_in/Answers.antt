@@ -1,7 +1,7 @@
 -- `marking::mark_in` meets its contract: both trees stand tidied and measured in the buffers. Assumes nothing.
 use Rattle.marking.proofs.TidiedPart.{tidied_row, prepared}
 use Rattle.marking.proofs.Marking.{accepted_mark, derived_whole, derived_exact, base_whole, base_exact}
-use Rattle.marking.proofs.mark_in.Goals as goal
+use Rattle.marking.proofs.Accepted.mark_in.Goals as goal
 
 pub normalize_in-d-requires-clause-row : goal.normalize_in-d-requires-clause-row
 normalize_in-d-requires-clause-row c = search derived_whole
