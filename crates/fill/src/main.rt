@@ -11,10 +11,10 @@ use streams::ROOM;
 fn main(rt: HostRuntime) -> io::Result<()> {
     let mut input = rt.stdin();
     let mut numbers = [0u8; ROOM];
-    let numbers = streams::counted(&mut input, &mut numbers)?;
+    let k = streams::counted(&mut input, &mut numbers)?;
     let mut sheet = [0u8; ROOM];
     let sheet = streams::read_rest(&mut input, &mut sheet)?;
-    match types::fill_types(sheet, numbers) {
+    match types::fill_types(sheet, &numbers[..k]) {
         Ok(()) => rt.write_all(sheet),
         Err(r) => eprintln!(rt; "{r}"),
     }

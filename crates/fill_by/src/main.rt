@@ -11,12 +11,12 @@ use streams::ROOM;
 fn main(rt: HostRuntime) -> io::Result<()> {
     let mut input = rt.stdin();
     let mut parents = [0u8; ROOM];
-    let parents = streams::counted(&mut input, &mut parents)?;
+    let rows = streams::counted(&mut input, &mut parents)?;
     let mut numbers = [0u8; ROOM];
-    let numbers = streams::counted(&mut input, &mut numbers)?;
+    let k = streams::counted(&mut input, &mut numbers)?;
     let mut sheet = [0u8; ROOM];
     let sheet = streams::read_rest(&mut input, &mut sheet)?;
-    match types::fill_types_by(sheet, numbers, parents) {
+    match types::fill_types_by(sheet, &numbers[..k], &parents[..rows]) {
         Ok(()) => rt.write_all(sheet),
         Err(r) => eprintln!(rt; "{r}"),
     }

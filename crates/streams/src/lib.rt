@@ -59,6 +59,7 @@ pub fn read_rest<'a, R: Read>(input: &mut R, buf: &'a mut [u8]) -> io::Result<&'
 pub fn filled<R: Read>(input: &mut R, buf: &mut [u8]) -> io::Result<bool>
     ensures bytes { IfOk result (λ full. full ≡ true → Consumes (R.remaining input.old) (R.remaining input.new) buf.new) }
     ensures end { IfOk result (λ full. full ≡ false → IsAtEnd (R.remaining input.new)) }
+    ensures len { length buf.new ≡ length buf.old }
     ensures none_lost { OnErr result ((n : ℕ) × Consumes (R.remaining input.old) (R.remaining input.new) (take n buf.new)) }
 {
     Ok(read_full(input, buf)? == buf.len())
@@ -79,17 +80,19 @@ pub fn read_number<R: Read>(input: &mut R) -> io::Result<usize>
     Ok(number_at(&head, 0))
 }
 
-// Reads a number of two bytes from the input, and then so many bytes, and returns these. Input that ends before leaves the rest of them as
-// they were. It fails only where a read does.
-pub fn counted<'a, R: Read>(input: &mut R, buf: &'a mut [u8]) -> io::Result<&'a [u8]>
+// Reads a number of two bytes from the input, and then so many bytes to the start of buf, and returns how many. Input that ends before leaves
+// the rest of them as they were. It fails only where a read does.
+// A count, and no part of buf: of what is handed out the contract could not say that buf keeps its length where a read fails.
+pub fn counted<R: Read>(input: &mut R, buf: &mut [u8]) -> io::Result<usize>
     requires { 65536 ≤ length buf.old }
-    ensures bytes { IfOk result (λ s. GivesCounted (R.remaining input.old) (R.remaining input.new) s.now) }
+    ensures ok { IfOk result (λ n. IsPrefixLen n buf.new) }
+    ensures err { OnErr result (length buf.new ≡ length buf.old) }
+    ensures bytes { IfOk result (λ n. GivesCounted (R.remaining input.old) (R.remaining input.new) (take n buf.new)) }
     ensures none_lost { OnErr result ((came : List ℕ) × Consumes (R.remaining input.old) (R.remaining input.new) came) }
 {
     let n = read_number(input)?;
-    let part = &mut buf[..n];
-    read_full(input, part)?;
-    Ok(part)
+    read_full(input, &mut buf[..n])?;
+    Ok(n)
 }
 
 // The tree of k records at the start of t, a count beside the buffer as the entries answer it. None of them writes more than MAX_RECORDS.
