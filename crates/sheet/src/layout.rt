@@ -118,6 +118,8 @@ pub fn contents_ok(s: &[u8]) -> bool
     counts_ok(s) && zero_byte(s) == 0 && total_field(s) == total && s.len() == total
 }
 
+// Each part requires contents in order: with a struct that holds this, the check's contract would be no equation with `sheet_refusal`.
+
 // The leaves.
 pub fn leaves(s: &[u8]) -> &[u8]
     requires { contents_ok s.now ≡ true }
