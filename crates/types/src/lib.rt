@@ -37,6 +37,7 @@ pub fn fill_types_by(sheet: &mut [u8], types: &[u8], parents: &[u8]) -> Result<(
     let table = Table::new(parents)?;
     sheet::check(sheet)?;
     let n = usize::from(sheet::leaf_count(sheet));
+    // Memory is fixed: room for the longest list of kinds, of which n are the sheet's.
     let mut kinds = [0; MAX_LEAVES];
     sheet::leaf_kinds(sheet, &mut kinds);
     Filling::new(table, &kinds[..n], types)?.fill_sheet(sheet);
