@@ -118,7 +118,7 @@ impl Accepted<'_> {
 
     // The same, with buffers as long as the trees ask for.
     #[tactic(auto, using(crate::proofs::Marking::contents_ok_lem))]
-    fn mark(self) -> Verdict
+    fn verdict(self) -> Verdict
         ensures { mark_of result ≡ mark_of_sheet self.entry.bytes.now }
     {
         match sheet::derived(self.bytes)
@@ -139,7 +139,7 @@ pub fn mark(s: &[u8]) -> MarkAnswer
     ensures set_in_range { SetInRange result }
 {
     match sheet::check(s) {
-        Ok(()) => MarkAnswer::from(Accepted { bytes: s }.mark()),
+        Ok(()) => MarkAnswer::from(Accepted { bytes: s }.verdict()),
         Err(r) => MarkAnswer::Refused(r),
     }
 }

@@ -5,4 +5,4 @@ use Rattle.marking.proofs.Shown.{in_range_lem}
 use Rattle.marking.proofs.mark.Goals as goal
 
 pub returns-in-Ok-clause-set_in_range : goal.returns-in-Ok-clause-set_in_range
-returns-in-Ok-clause-set_in_range c = (in_range_lem c.args.s.now _ (marked _ (sym c.check.ensures ∙ c.in-Ok.is) c.mark.ensures c.from.ensures)).1
+returns-in-Ok-clause-set_in_range c = (in_range_lem c.args.s.now _ (marked _ (sym c.check.ensures ∙ c.in-Ok.is) c.verdict.ensures c.from.ensures)).1
