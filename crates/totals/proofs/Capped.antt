@@ -13,7 +13,7 @@ use Rattle.particle.proofs.Folds.{Matches, ended, next}
 use Rattle.particle.proofs.Every.{EachHead}
 use Rattle.totals.specs.Exact.{add_max, times_unbounded, mul_max, max_max, add_range, mul_range, span_range, sum, span, exact_from, exact_total}
 use Rattle.totals.specs.Total.{largest, cut_min, cut_bounded, cut_max, cut, total}
-use Rattle.totals.proofs.Cuts.{cut_cases, min_cases, bounded_cases, within, above}
+use Rattle.totals.proofs.Cuts.{cut_cases, min_cases, bounded_cases, within, above, same_pair}
 use Rattle.totals.proofs.Caps.{cap_min, cap_max, capped_add_max, capped_mul_max, capped_add, capped_mul, capped_sum, capped_from, capped_total, min_with_cap, max_with_cap, with_caps, Max32, Pair32, Leaf32}
 
 cap_cases : (P : MaxOccurs → Type 0) (n : ℕ) → (n ≤ largest → P (Bounded n)) → (largest < n → P Unbounded) → P (cap_max n)
@@ -95,9 +95,6 @@ mul_min (suc a) b = go (dec_le b largest)
     go (no l) = let e : cap_min b ≡ largest = omega arith in rw e (omega arith)
 
 -- ranges
-same_pair : {m n : ℕ} {a b : MaxOccurs} → m ≡ n → a ≡ b → ◌≡◌ {A = Occurs} (record { min = m; max = a }) (record { min = n; max = b })
-same_pair e f = λ i. record { min = e i; max = f i }
-
 add_capped : (a b : Occurs) → capped_add (capped a) (capped b) ≡ capped (add_range a b)
 add_capped a b = same_pair (omega arith) (add_max_lem a.max b.max)
 

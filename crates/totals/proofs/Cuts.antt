@@ -6,6 +6,8 @@ use native.Mathlib.Decide.{dec_le}
 use native.Mathlib.Omega.{arith}
 use lib.Dec.{leb}
 use borrow.Author.Tests.{le-leb, lt-leb}
+use Rattle.particle.specs.declared.MaxOccurs.{MaxOccurs}
+use Rattle.particle.specs.declared.Occurs.{Occurs}
 use Rattle.totals.specs.declared.ranges.TotalMin.{TotalMin}
 use Rattle.totals.specs.declared.ranges.TotalMin.TheVariants.{Exact, TooLarge}
 use Rattle.totals.specs.declared.ranges.TotalMax.{TotalMax}
@@ -47,6 +49,9 @@ bounded_within n = within (most.Bounded n) most.TooLarge n
 pub bounded_above : (n : ℕ) → largest < n → cut_bounded n ≡ most.TooLarge
 bounded_above n = above (most.Bounded n) most.TooLarge n
 
--- a range, number by number
+-- a pair and a range, number by number
+pub same_pair : {m n : ℕ} {a b : MaxOccurs} → m ≡ n → a ≡ b → ◌≡◌ {A = Occurs} (record { min = m; max = a }) (record { min = n; max = b })
+same_pair e f = λ i. record { min = e i; max = f i }
+
 pub same_range : {m n : TotalMin} {a b : TotalMax} → m ≡ n → a ≡ b → ◌≡◌ {A = TotalRange} (record { min = m; max = a }) (record { min = n; max = b })
 same_range e f = λ i. record { min = e i; max = f i }

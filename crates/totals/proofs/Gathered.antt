@@ -16,12 +16,10 @@ use Rattle.totals.specs.declared.ranges.TotalRange.{TotalRange}
 use Rattle.totals.specs.Exact.{add_max, max_max, add_range, span_range, sum, span, exact_from, exact_total}
 use Rattle.totals.specs.Total.{cut, total}
 use Rattle.totals.specs.Cut.{add_cut, span_cut}
+use Rattle.totals.proofs.Cuts.{same_pair}
 use Rattle.totals.proofs.CutSums.{add_cut_lem, span_cut_lem}
 use Rattle.particle.proofs.Falls.{Part, part_start, part_first, part_next}
 use Rattle.totals.proofs.FirstTotal.{totals, leaf_total}
-
-same_pair : {m n : ℕ} {a b : MaxOccurs} → m ≡ n → a ≡ b → ◌≡◌ {A = Occurs} (record { min = m; max = a }) (record { min = n; max = b })
-same_pair e f = λ i. record { min = e i; max = f i }
 
 -- The first two of a list may be taken together: sums and spans are associative.
 add_max_together : (a b c : MaxOccurs) → add_max a (add_max b c) ≡ add_max (add_max a b) c

@@ -9,7 +9,7 @@ use Rattle.particle.specs.declared.MaxOccurs.{MaxOccurs}
 use Rattle.particle.specs.declared.MaxOccurs.TheVariants as occurs
 use Rattle.particle.specs.declared.Occurs.{Occurs}
 use Rattle.particle.specs.Occurs.{max_ok, range_ok}
-use Rattle.particle.proofs.Tests.{and-true}
+use Rattle.std.proofs.lemmas.Bool.{and_parts}
 use Rattle.totals.specs.declared.ranges.TotalMin.{TotalMin}
 use Rattle.totals.specs.declared.ranges.TotalMin.TheVariants as least
 use Rattle.totals.specs.declared.ranges.TotalMax.{TotalMax}
@@ -32,7 +32,7 @@ max_exact occurs.Unbounded occurs.Unbounded t = refl
 -- what passes is within by its exact numbers
 pub ok_exact : (e q : Occurs) → total_ok (cut e) q ≡ true → range_ok e q ≡ true
 ok_exact e q t =
-    let (l, m) = and-true (total_min_ok (cut_min e.min) q.min) (total_max_ok (cut_max e.max) q.max) t in
+    let (l, m) = and_parts (total_min_ok (cut_min e.min) q.min) (total_max_ok (cut_max e.max) q.max) t in
     ap₂ ◌&&◌ (le-leb q.min e.min (min_exact e.min q.min l)) (max_exact e.max q.max m)
 
 -- the other way round too, where the pair's numbers have 32 bits: the test answers as the exact numbers do

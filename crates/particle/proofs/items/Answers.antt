@@ -1,6 +1,5 @@
 -- `particle::items` meets its contract. Assumes nothing.
-use Rattle.particle.specs.Record.{record_size}
-use Rattle.particle.proofs.Laws.{part_is, some_bytes}
+use Rattle.particle.proofs.Laws.{some_bytes}
 use Rattle.particle.proofs.items.Goals as goal
 
 pub slice_bounds-result-count : goal.slice_bounds-result-count
@@ -8,6 +7,3 @@ slice_bounds-result-count c = some_bytes c.requires
 
 pub slice_bounds-result-start : goal.slice_bounds-result-start
 slice_bounds-result-start c = some_bytes c.requires
-
-pub returns : goal.returns
-returns c = part_is c.args.t.now record_size

@@ -1,5 +1,5 @@
 -- `particle::later` meets its contract. Assumes nothing.
-use Rattle.particle.proofs.Laws.{end_within, later_is}
+use Rattle.particle.proofs.Laws.{end_within}
 use Rattle.particle.proofs.later.Goals as goal
 
 pub slice_bounds-result-count : goal.slice_bounds-result-count
@@ -7,6 +7,3 @@ slice_bounds-result-count c = end_within _ c.run_len-n.ensures
 
 pub slice_bounds-result-start : goal.slice_bounds-result-start
 slice_bounds-result-start c = end_within _ c.run_len-n.ensures
-
-pub returns : goal.returns
-returns c = later_is _ c.run_len-n.ensures
