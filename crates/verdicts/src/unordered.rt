@@ -23,6 +23,7 @@ fn take_named(bs: Subtrees, matched: &mut [bool], name: u32, paper: &Paper) -> O
     requires { bs.count ≤ length matched.old }
     ensures { found_of result (untaken_items matched.new (row_of bs.entry)) ≡ take_named (paper_leaves paper.now) name (untaken_items matched.old (row_of bs.entry)) }
 {
+    // An index: the items' flags stand in a slice of their own.
     let mut i: usize = 0;
     for b in bs {
         let head = b.record();
@@ -40,6 +41,7 @@ fn untaken(bs: Subtrees, matched: &[bool]) -> Verdict
     requires { bs.count ≤ length matched.now }
     ensures { mark_of result ≡ untaken (untaken_items matched.now (row_of bs.entry)) }
 {
+    // An index, as in `take_named`.
     let mut i: usize = 0;
     for b in bs {
         if b.record().min > 0 && !matched[i] {
