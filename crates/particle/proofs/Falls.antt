@@ -45,8 +45,8 @@ module _ {m i : ℕ} {s t : List ℕ} (w : Part i s t) (some : m < i) where
 
 -- one tree further on, with j trees left
 pub part_after : {i j : ℕ} {s t u : List ℕ} → Part i s t → i ≡ suc j → u ≡ later_part s → Part j u t
-part_after {j} w e p =
-    let from : Row (suc j) _ = rw (sym e) w.trees in
+part_after {j = j} {s = s} w e p =
+    let from : Row (suc j) s = rw (sym e) w.trees in
     rw p (record { trees = later_row from; within = omega (arith, w.within, later_shorter from) })
 
 -- the items of a tree

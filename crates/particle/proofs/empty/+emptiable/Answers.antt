@@ -32,8 +32,12 @@ items_emptiable-returns-then-found-each t c =
     item_decides c.loop-item.invariant.3 c.loop-item.item-iterator.row {j = c.next.new.self.count} (omega (arith, c.in-Some.ensures.steps.2)) (rw c.in-Some.ensures.steps.0 at c.emptiable-found.ensures) (not-true _ c.if-found-each.true)
 
 pub items_emptiable-loop-item-preserved : goal.items_emptiable-loop-item-preserved
-items_emptiable-loop-item-preserved t c = (tt, tt, part_after {j = c.next.new.self.count} c.loop-item.invariant.2 (omega (arith, c.in-Some.ensures.steps.2)) c.in-Some.ensures.steps.1,
-    items_next c.loop-item.invariant.3 c.loop-item.item-iterator.row {j = c.next.new.self.count} (omega (arith, c.in-Some.ensures.steps.2)) (rw c.in-Some.ensures.steps.0 at c.emptiable-found.ensures) c.in-Some.ensures.steps.1 (not-false _ c.if-found-each.false))
+items_emptiable-loop-item-preserved t c = (
+  tt,
+  tt,
+  part_after {j = c.next.new.self.count} c.loop-item.invariant.2 (omega (arith, c.in-Some.ensures.steps.2)) c.in-Some.ensures.steps.1,
+  items_next c.loop-item.invariant.3 c.loop-item.item-iterator.row {j = c.next.new.self.count} (omega (arith, c.in-Some.ensures.steps.2)) (rw c.in-Some.ensures.steps.0 at c.emptiable-found.ensures) c.in-Some.ensures.steps.1 (not-false _ c.if-found-each.false),
+)
 
 pub items_emptiable-returns : goal.items_emptiable-returns
 items_emptiable-returns t c = items_end c.loop-item.invariant.3 (omega (arith, c.in-None.ensures.steps.0))
