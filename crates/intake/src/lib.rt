@@ -36,7 +36,7 @@ pub enum Refusal {
     TypeTable,
 }
 
-// In a list of leaf kinds: a leaf that may be an element or a wildcard.
+// In a list of leaf kinds, which are the sheet's bytes: a leaf that may be an element or a wildcard.
 const EITHER: u8 = 2;
 
 // A tree is at most so deep; its root is at depth 1.

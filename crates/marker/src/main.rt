@@ -27,7 +27,7 @@ enum Task {
     Usage,
 }
 
-// What came of reading the next of many sheets.
+// What came of reading the next of many sheets: a mark, or one of two ends, so no `Option`.
 #[derive(Clone, Copy)]
 enum Outcome {
     Marked(MarkAnswer),

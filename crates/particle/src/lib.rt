@@ -43,6 +43,7 @@ const AT_MAX: usize = 12;
 // A tree has at most so many records.
 pub const MAX_RECORDS: usize = 1000;
 
+// A record's kind is a byte and no enum: until the check any byte may stand there, and document 01 asks for a match over kind numbers.
 pub const ELEMENT: u8 = 0;
 
 pub const WILDCARD: u8 = 1;
@@ -53,7 +54,7 @@ pub const CHOICE: u8 = 3;
 
 pub const ALL: u8 = 4;
 
-// A maximum: a number or unbounded, which is above every number.
+// A maximum: a number or unbounded, which is above every number. No `Option`: document 01 asks for an enum, and unbounded is no absence.
 #[derive(Clone, Copy, PartialEq, Eq, PartialOrd, Ord)]
 pub enum MaxOccurs {
     Bounded(u32),
@@ -73,6 +74,7 @@ pub struct Record {
     pub kind: u8,
     pub leaf: u8,
     pub count: u16,
+    // Beside `max`, as the bytes have them; `range` gives the two as one.
     pub unbounded: u8,
     pub zero: u8,
     pub size: u16,
@@ -202,6 +204,8 @@ pub fn skip(t: &[u8], n: usize) -> &[u8]
     &t[at..]
 }
 
+// The steps over bytes, on which the types of subtrees.rt and measured_trees.rt are built: so they ask for a row.
+//
 // How many bytes the first tree of t takes.
 pub fn run_len(t: &[u8]) -> usize
     requires { Row 1 t.now }

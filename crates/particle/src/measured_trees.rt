@@ -10,7 +10,7 @@ ghost use Rattle.particle.specs.Props.{props};
 
 use crate::{Record, items, next, record_at, told_emptiable};
 
-// The first tree of a part of a tree's bytes.
+// The first tree of a part of a tree's bytes. No `Subtree` with a parameter: a ghost field can't stand beside one that is a bool.
 #[derive(Clone, Copy)]
 pub struct MeasuredTree<'a> {
     pub bytes: &'a [u8],

@@ -145,7 +145,7 @@ fn any_alternative(
     verdicts::definite(Verdict::Violation(reason), seen)
 }
 
-// Sequence against sequence, or choice against choice, which is lax: range, ordered walk.
+// Sequence against sequence, or choice against choice, which is lax: range, ordered walk. Only the first test is that of `group_all`.
 #[cycle(restrict)]
 fn same_kind(
     ds: MeasuredTrees,

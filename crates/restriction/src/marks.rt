@@ -126,7 +126,8 @@ pub fn walked(within: bool, once: Option<Verdict>, own: Option<Verdict>) -> Mark
     }
 }
 
-// Both marks of the element d against the tree b: counting once, and with its own pair p.
+// Both marks of the element d against the tree b: counting once, and with its own pair p. By the base's kind number, as `by_kinds`.
+// Leaf and pair are d's own: a struct of the three would hold in its type what the three functions ask, and be taken apart at each use.
 #[cycle(restrict)]
 fn element_marks(d: MeasuredTree, leaf: u8, p: Occurs, b: MeasuredTree, paper: &Paper) -> Marks
     requires { (tree_of d).head ≡ element leaf p }
@@ -180,8 +181,9 @@ pub fn sequence_marks(
     walked(within, once, own)
 }
 
-// The same against a choice. It keeps other things of the items than the walks over a sequence, so that the two loops stay apart. The wrapped reading is the lax walk, which ends at the first alternative that does not fail; the other
-// reading, and the element that counts once, go on after an undecided one.
+// The same against a choice. The wrapped reading is the lax walk, which ends at the first alternative that does not fail; the other
+// reading, and the element that counts once, go on after an undecided one. It keeps other things of the items than the walks over a
+// sequence, so that the two loops stay apart.
 #[cycle(restrict)]
 pub fn choice_marks(
     d: MeasuredTree,

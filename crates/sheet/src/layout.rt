@@ -11,6 +11,8 @@ use verdicts::LEAF_SIZE;
 // The length of the contents in bytes.
 const CONTENTS_SIZE: usize = 8;
 
+// Each field asks for the contents' length alone: it is read before the contents are found in order, and by other crates one by one.
+//
 // How many leaves the sheet has.
 pub fn leaf_count(s: &[u8]) -> u8
     requires { contents_size ≤ length s.now }

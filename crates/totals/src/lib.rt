@@ -16,7 +16,8 @@ pub use ranges::{TotalMax, TotalMin, TotalRange, product_max, product_min, total
 
 // The total range of the first tree of t. It goes as the W3C text goes (3.8.6, Effective Total Range): all and sequence, then choice; of each the
 // minimum, then the maximum, in which order `ranges` works both. A leaf, of which that text doesn't speak, has its own pair.
-// Where t is measured, each record is read once.
+// Where t is measured, each record is read once. A flag, and not two types of trees: one trait of both would need laws over their iterators
+// for the one step in which they differ.
 #[cycle(total)]
 pub fn effective_total_range(t: &[u8], measured: bool) -> TotalRange
     requires row { Row 1 t.now }

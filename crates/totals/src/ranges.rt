@@ -8,7 +8,7 @@ ghost use Rattle.totals.specs.Cut.{add_cut_min, mul_cut_min, add_cut_max, mul_cu
 use particle::{MaxOccurs, Occurs};
 use std::ops::{Add, Mul};
 
-// The least number of a total range. One that is too large is above every exact one.
+// The least number of a total range. One that is too large is above every exact one, and is a number: so no `Option`.
 #[derive(Clone, Copy, PartialEq, Eq, PartialOrd, Ord)]
 pub enum TotalMin {
     Exact(u32),

@@ -77,6 +77,7 @@ fn take_members(ds: Subtrees, bs: Subtrees, matched: &mut [bool], paper: &Paper)
     let mut free = bs;
     let mut low: usize = 0;
     for d in ds {
+        // The two go on together: the flags stand in a slice of their own.
         while free.count > 0 && matched[low] {
             let _ = free.next();
             low += 1;
