@@ -15,7 +15,7 @@ ghost use Rattle.chain.specs.Nested.{Nests, Joining};
 use intake::{Fault, Refusal};
 use particle::{MAX_RECORDS, RECORD_SIZE};
 
-// The length of the longest tree in bytes.
+// The length of the longest tree in bytes: memory is fixed, so there is room for it.
 const CAPACITY: usize = RECORD_SIZE * MAX_RECORDS;
 
 // The first refusal of the chain's trees, each as a tree alone. An absent one has none.

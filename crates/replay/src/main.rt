@@ -113,7 +113,7 @@ impl From<io::Error> for Stop {
     }
 }
 
-// What an operation's number stands for, if anything.
+// What an operation's number stands for, if anything: the numbers are the file's, and a match turns them into an enum once.
 fn asked_for(number: u8, k: [u8; 2]) -> Option<Operation> {
     let [low, high] = k;
     let count = usize::from(u16::from_le_bytes(k));

@@ -28,7 +28,7 @@ pub fn exactly_one() -> Occurs
     }
 }
 
-// Whether an element of pair p counts once.
+// Whether an element of pair p counts once: two tests, as the definition has them.
 pub fn counts_once(p: Occurs) -> bool
     ensures { result ≡ is_once p }
 {

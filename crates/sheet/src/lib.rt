@@ -40,6 +40,7 @@ pub fn check(s: &[u8]) -> Result<(), Refusal>
         return Err(Refusal::Contents);
     }
     let n = usize::from(leaf_count(s));
+    // Memory is fixed: room for the longest list of kinds, of which n are the sheet's.
     let mut kinds = [0; intake::MAX_LEAVES];
     if !bodies::read_leaves(layout::leaves(s), n, &mut kinds) {
         return Err(Refusal::Leaf);

@@ -15,7 +15,7 @@ ghost use Rattle.tidying.specs.Laid.{tidied, Room, Removed, ItemStands, KeepsAft
 
 use particle::Record;
 
-// The length of the longest tree in bytes.
+// The length of the longest tree in bytes: memory is fixed, so there is room for it.
 const CAPACITY: usize = particle::RECORD_SIZE * particle::MAX_RECORDS;
 
 // What tidying a tree leaves: how many bytes of it were read, and where its records end in the buffer.
@@ -35,7 +35,7 @@ struct Kept {
     end: usize,
 }
 
-// Whether the pair of h is (1,1).
+// Whether the pair of h is (1,1). Of the record's fields: by `==` two pairs would be made first.
 fn once(h: Record) -> bool
     ensures { result ≡ is_once (range_of h) }
 {
@@ -195,7 +195,8 @@ pub fn normalize_in(t: &[u8], out: &mut [u8]) -> usize
     tidy_tree(t, out, 0).end
 }
 
-// The tree of t, tidied, at the start of out: answers its record count. Every later byte of out keeps its value.
+// The tree of t, tidied, at the start of out: answers its record count. Every later byte of out keeps its value. Its clauses, and those of
+// `normalize_in`, are the contracts of docs/PROOF.md, so that no type has them.
 pub fn normalize(t: &[u8], out: &mut [u8]) -> usize
     requires row { Row 1 t.now }
     requires faithful { Faithful (records t.now) }

@@ -42,7 +42,7 @@ impl From<u64> for TotalMin {
     }
 }
 
-// n as a maximum, in the same way.
+// n as a maximum, in the same way; of another type, so an impl of its own.
 impl From<u64> for TotalMax {
     ghost from_gives = { λ n m. m ≡ cut_bounded n };
 

@@ -96,7 +96,8 @@ fn take_members(ds: Subtrees, bs: Subtrees, matched: &mut [bool], paper: &Paper)
     definite(untaken(free, &matched[low..]), seen)
 }
 
-// The trees of ds against those of bs, as document 01 has it for all-groups.
+// The trees of ds against those of bs, as document 01 has it for all-groups. Memory is fixed, and the trees lie in the caller's bytes: so
+// the flags are an array beside them. They are lent from another place on at each step, so no struct has both.
 pub fn recurse_unordered(ds: Subtrees, bs: Subtrees, paper: &Paper) -> Verdict
     requires { bs.count ≤ max_records }
     ensures { mark_of result ≡ recurse_unordered (paper_leaves paper.now) (paper_tables paper.now) (row_of ds.entry) (row_of bs.entry) }
