@@ -49,7 +49,7 @@ pub fn marker_mark(s: &[u8]) -> u32
     match marking::mark(s) {
         MarkAnswer::Passes => 0,
         MarkAnswer::Undecided => 1,
-        MarkAnswer::Fails(r) => verdicts::reason_number(r),
+        MarkAnswer::Fails(r) => u32::from(r),
         MarkAnswer::Refused(r) => refused32(r),
     }
 }

@@ -12,10 +12,7 @@ impl fmt::Display for MarkAnswer {
         match self {
             MarkAnswer::Passes => f.write_str("passes"),
             MarkAnswer::Undecided => f.write_str("undecided"),
-            MarkAnswer::Fails(r) => {
-                let n = verdicts::reason_number(*r);
-                write!(f, "fails {n}")
-            }
+            MarkAnswer::Fails(r) => write!(f, "fails {}", u32::from(*r)),
             MarkAnswer::Refused(r) => write!(f, "{r}"),
         }
     }

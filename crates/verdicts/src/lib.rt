@@ -110,35 +110,37 @@ fn paper_reason(n: u8) -> u32
 }
 
 // The number of a reason.
-pub fn reason_number(r: Reason) -> u32
-    ensures { result ≡ reason_number r }
-{
-    match r {
-        Reason::ElementWildcardRange => 101,
-        Reason::WildcardElement => 102,
-        Reason::WildcardRange => 103,
-        Reason::WeakerProcessContents => 104,
-        Reason::SequenceRange => 105,
-        Reason::ChoiceRange => 106,
-        Reason::AllRange => 107,
-        Reason::NotInAll => 108,
-        Reason::MissingFromAll => 109,
-        Reason::SequenceRequired => 110,
-        Reason::NoAlternative => 111,
-        Reason::ChoiceRequired => 112,
-        Reason::TotalRange => 113,
-        Reason::WildcardGroup => 114,
-        Reason::GroupKind => 115,
-        Reason::SequenceTotal => 116,
-        Reason::MemberAlternative => 117,
-        Reason::SequenceAllRange => 118,
-        Reason::MemberNotElement => 119,
-        Reason::NotAllowed => 120,
-        Reason::RequiredMissing => 121,
-        Reason::MinBelow => 122,
-        Reason::MaxUnbounded => 123,
-        Reason::MaxAbove => 124,
-        Reason::BaseMayNotOccur => 125,
-        Reason::Set(n) => paper_reason(n),
+impl From<Reason> for u32 {
+    ghost from_gives = { λ r n. n ≡ reason_number r };
+
+    fn from(r: Reason) -> u32 {
+        match r {
+            Reason::ElementWildcardRange => 101,
+            Reason::WildcardElement => 102,
+            Reason::WildcardRange => 103,
+            Reason::WeakerProcessContents => 104,
+            Reason::SequenceRange => 105,
+            Reason::ChoiceRange => 106,
+            Reason::AllRange => 107,
+            Reason::NotInAll => 108,
+            Reason::MissingFromAll => 109,
+            Reason::SequenceRequired => 110,
+            Reason::NoAlternative => 111,
+            Reason::ChoiceRequired => 112,
+            Reason::TotalRange => 113,
+            Reason::WildcardGroup => 114,
+            Reason::GroupKind => 115,
+            Reason::SequenceTotal => 116,
+            Reason::MemberAlternative => 117,
+            Reason::SequenceAllRange => 118,
+            Reason::MemberNotElement => 119,
+            Reason::NotAllowed => 120,
+            Reason::RequiredMissing => 121,
+            Reason::MinBelow => 122,
+            Reason::MaxUnbounded => 123,
+            Reason::MaxAbove => 124,
+            Reason::BaseMayNotOccur => 125,
+            Reason::Set(n) => paper_reason(n),
+        }
     }
 }
