@@ -47,7 +47,7 @@ impl<'a> MeasuredTree<'a> {
     {
         MeasuredTrees {
             bytes: items(self.bytes),
-            count: record_at(self.bytes).count as usize,
+            count: usize::from(record_at(self.bytes).count),
         }
     }
 

@@ -37,7 +37,7 @@ impl<'a> Subtree<'a> {
     {
         Subtrees {
             bytes: items(self.bytes),
-            count: record_at(self.bytes).count as usize,
+            count: usize::from(record_at(self.bytes).count),
         }
     }
 }

@@ -7,4 +7,4 @@ pub record_at-requires : goal.record_at-requires
 record_at-requires c = some_bytes c.args.self.run.row
 
 pub invariant_of-result : goal.invariant_of-result
-invariant_of-result c = record { run = rw (c.record_at.ensures, c.items.ensures) (items_run c.args.self.run) }
+invariant_of-result c = record { run = rw (c.from.ensures, c.record_at.ensures, c.items.ensures) (items_run c.args.self.run) }

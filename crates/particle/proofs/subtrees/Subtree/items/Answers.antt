@@ -6,4 +6,4 @@ pub record_at-requires : goal.record_at-requires
 record_at-requires c = some_bytes c.args.self.row
 
 pub invariant_of-result : goal.invariant_of-result
-invariant_of-result c = record { row = rw (c.record_at.ensures, c.items.ensures) (items_row c.args.self.row) }
+invariant_of-result c = record { row = rw (c.from.ensures, c.record_at.ensures, c.items.ensures) (items_row c.args.self.row) }
