@@ -35,7 +35,7 @@ fn verdict_at(tables: &[u8], i: usize) -> Verdict
 fn product(a: u8, b: u8) -> usize
     ensures { (result ≡ a * b) × (result < 65536) }
 {
-    (a as usize) * (b as usize)
+    usize::from(a) * usize::from(b)
 }
 
 // The derived element's maximum against the base element's.
@@ -59,7 +59,7 @@ impl Paper<'_> {
     pub fn first(&self, l: u8, m: u8) -> Verdict
         ensures { mark_of result ≡ (paper_tables self.now).first l m }
     {
-        verdict_at(self.tables, product(l, self.n) + (m as usize))
+        verdict_at(self.tables, product(l, self.n) + usize::from(m))
     }
 
     // The second table's, which stands after the first.
@@ -68,7 +68,7 @@ impl Paper<'_> {
     {
         verdict_at(
             self.tables,
-            product(self.n, self.n) + product(l, self.n) + (m as usize),
+            product(self.n, self.n) + product(l, self.n) + usize::from(m),
         )
     }
 
@@ -76,16 +76,16 @@ impl Paper<'_> {
     fn strength(&self, l: u8) -> u8
         ensures { result ≡ (paper_leaves self.now).strength l }
     {
-        byte_or(self.leaves, LEAF_SIZE * (l as usize) + AT_PROCESS, 0)
+        byte_or(self.leaves, LEAF_SIZE * usize::from(l) + AT_PROCESS, 0)
     }
 
     // A leaf's local name number.
     pub(crate) fn local_name(&self, l: u8) -> u32
         ensures { result ≡ (paper_leaves self.now).local_name l }
     {
-        let at = LEAF_SIZE * (l as usize);
-        (byte_or(self.leaves, at + AT_NAME, 0) as u32)
-            + (byte_or(self.leaves, at + AT_NAME_HIGH, 0) as u32) * 256
+        let at = LEAF_SIZE * usize::from(l);
+        u32::from(byte_or(self.leaves, at + AT_NAME, 0))
+            + u32::from(byte_or(self.leaves, at + AT_NAME_HIGH, 0)) * 256
     }
 
     // The element verdict: first table, minimum, maximum, second table.

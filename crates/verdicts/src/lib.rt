@@ -104,7 +104,7 @@ fn paper_reason(n: u8) -> u32
     ensures { result ≡ paper_reason n }
 {
     match n {
-        FIRST_SET..=LAST_SET => n as u32,
+        FIRST_SET..=LAST_SET => u32::from(n),
         _ => 0,
     }
 }
