@@ -29,10 +29,10 @@ module _ {t : List ℕ} {r : Record} {own : Occurs} (w : Row 1 t) (e : r ≡ rec
     group_total : (x : Occurs) → u ≡ cut x → v ≡ cut (mul_range (range_of r) x)
     group_total x q = m ∙ (ap₂ mul_cut o q ∙ mul_cut_lem (range_of r) x)
 
-    pub choice_total : r.kind ≡ 3 → u ≡ cut (span (totals r.count s)) → v ≡ total (tree t)
+    pub choice_total : {n : ℕ} → n ≡ r.count → r.kind ≡ 3 → u ≡ cut (span (totals n s)) → v ≡ total (tree t)
     unfolding total exact_total
-    choice_total k q = group_total _ q ∙ ap cut (ap (λ (x : List ℕ). mul_range (range_of r) (span (totals r.count x))) p ∙ sym (first_choice exact_from w e k))
+    choice_total c k q = group_total _ (q ∙ ap (λ n. cut (span (totals n s))) c) ∙ ap cut (ap (λ (x : List ℕ). mul_range (range_of r) (span (totals r.count x))) p ∙ sym (first_choice exact_from w e k))
 
-    pub ordered_total : 2 ≤ r.kind → (r.kind ≡ 3 → ⊥) → u ≡ cut (sum (totals r.count s)) → v ≡ total (tree t)
+    pub ordered_total : {n : ℕ} → n ≡ r.count → 2 ≤ r.kind → (r.kind ≡ 3 → ⊥) → u ≡ cut (sum (totals n s)) → v ≡ total (tree t)
     unfolding total exact_total
-    ordered_total k k' q = group_total _ q ∙ ap cut (ap (λ (x : List ℕ). mul_range (range_of r) (sum (totals r.count x))) p ∙ sym (first_ordered exact_from w e (λ p ts. refl) k k'))
+    ordered_total c k k' q = group_total _ (q ∙ ap (λ n. cut (sum (totals n s))) c) ∙ ap cut (ap (λ (x : List ℕ). mul_range (range_of r) (sum (totals r.count x))) p ∙ sym (first_ordered exact_from w e (λ p ts. refl) k k'))

@@ -29,7 +29,7 @@ pub fn effective_total_range(t: &[u8], measured: bool) -> TotalRange
     if head.kind < particle::SEQUENCE {
         return TotalRange::from(own);
     }
-    let n = head.count as usize;
+    let n = usize::from(head.count);
     if head.kind != particle::CHOICE {
         return own * sum_of(particle::items(t), n, measured);
     }

@@ -18,13 +18,13 @@ pub effective_total_range-returns-then-head-lt-SEQUENCE : goal.effective_total_r
 effective_total_range-returns-then-head-lt-SEQUENCE t c = search leaf_total
 
 pub effective_total_range-sum_of-requires : goal.effective_total_range-sum_of-requires
-effective_total_range-sum_of-requires t c = (search items_fall, (search items_trees, search items_if))
+effective_total_range-sum_of-requires t c = rw c.from-n.ensures (search items_fall, (search items_trees, search items_if))
 
 pub effective_total_range-returns-then-head-ne-CHOICE : goal.effective_total_range-returns-then-head-ne-CHOICE
 effective_total_range-returns-then-head-ne-CHOICE t c = search ordered_total
 
 pub effective_total_range-span_of-requires : goal.effective_total_range-span_of-requires
-effective_total_range-span_of-requires t c = (search items_fall, (search items_trees, search items_if))
+effective_total_range-span_of-requires t c = rw c.from-n.ensures (search items_fall, (search items_trees, search items_if))
 
 pub effective_total_range-returns : goal.effective_total_range-returns
 effective_total_range-returns t c = search choice_total
