@@ -56,8 +56,8 @@ module _ (kept : Kept) {h : Record} {out : List ℕ} (e : h ≡ record_at (take 
   }
 
   module _ {z s : Bool} (never : z ≡ is_zero (range_of h).max) (y : z ≡ false) (own : s ≡ splices (head_of kept.group) (head_of h)) where
-    pub opened : {after : List ℕ} {r : ℕ} → s ≡ true → Removed out after kept.end end → r ≡ end - record_size → KeepsAfter kept out end (record kept { count = kept.count + h.count; end = r }) after
-    opened o r q = rw q (record {
+    pub opened : {after : List ℕ} {r m : ℕ} → s ≡ true → Removed out after kept.end end → r ≡ end - record_size → m ≡ h.count → KeepsAfter kept out end (record kept { count = kept.count + m; end = r }) after
+    opened o r q c = rw (q, c) (record {
       group = refl;
       at = refl;
       keeps = λ before x l a.

@@ -86,7 +86,7 @@ impl Kept {
             return;
         }
         if splices(self.group, h) {
-            self.count += h.count as usize;
+            self.count += usize::from(h.count);
             self.end = remove_record(out, start, end);
         } else {
             self.count += 1;
