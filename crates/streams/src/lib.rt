@@ -21,7 +21,7 @@ pub fn number_at(s: &[u8], at: usize) -> usize
     ensures value { result ≡ half s.now at }
     ensures upper_bound { result < 65536 }
 {
-    particle::read_u16(s, at) as usize
+    usize::from(particle::read_u16(s, at))
 }
 
 // Reads until buf is full or the input ends, and returns how many bytes it put at the start of buf. It fails only where a read does, and
