@@ -43,7 +43,7 @@ pub fn count(c: &[u8], i: usize) -> usize
     requires count_size_in_bounds { count_at i + count_size ≤ length c.now }
     ensures { (result ≡ count_in (drop (count_at i) c.now)) × (result < 65536) }
 {
-    particle::read_u16(c, count_at(i)) as usize
+    usize::from(particle::read_u16(c, count_at(i)))
 }
 
 // How many trees and records the counts give.
