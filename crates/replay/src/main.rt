@@ -161,19 +161,19 @@ fn answer(op: Operation, input: &[u8], lent: &mut [u8]) -> u64
     ensures lent_after { lent.new ≡ buffer_of op input.now lent.old }
 {
     match op {
-        Operation::Mark => exports::marker_mark(input) as u64,
+        Operation::Mark => u64::from(exports::marker_mark(input)),
         Operation::TotalMin => exports::marker_total_min(input),
         Operation::TotalMax => exports::marker_total_max(input),
-        Operation::Emptiable => exports::marker_emptiable(input) as u64,
+        Operation::Emptiable => u64::from(exports::marker_emptiable(input)),
         Operation::Tidy => exports::marker_tidy(input, lent),
-        Operation::Item(k) => exports::marker_item(input, k, lent) as u64,
+        Operation::Item(k) => u64::from(exports::marker_item(input, k, lent)),
         Operation::Join => exports::marker_effective_particle(input, lent),
-        Operation::TypeDerivation(d, b) => exports::marker_type_derivation_ok(d, b) as u64,
-        Operation::FillTypes => exports::marker_fill_types(lent, input) as u64,
-        Operation::TypeDerivationBy(d, b) => exports::marker_type_derivation_ok_by(
+        Operation::TypeDerivation(d, b) => u64::from(exports::marker_type_derivation_ok(d, b)),
+        Operation::FillTypes => u64::from(exports::marker_fill_types(lent, input)),
+        Operation::TypeDerivationBy(d, b) => u64::from(exports::marker_type_derivation_ok_by(
             input, d, b,
-        ) as u64,
-        Operation::FillTypesBy(k) => fill_by(lent, input, k) as u64,
+        )),
+        Operation::FillTypesBy(k) => u64::from(fill_by(lent, input, k)),
     }
 }
 
