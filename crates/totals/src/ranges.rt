@@ -104,7 +104,7 @@ impl Add for TotalMin {
     }
 }
 
-// The whole product: 64 bits hold it.
+// The whole product: 64 bits hold it. A function, for both products.
 fn product(a: u32, b: u32) -> u64
     ensures { result ≡ a * b }
 {

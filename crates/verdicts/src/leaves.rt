@@ -31,7 +31,7 @@ fn verdict_at(tables: &[u8], i: usize) -> Verdict
     Verdict::from(byte_or(tables, i, 1))
 }
 
-// The whole product: 16 bits hold it.
+// The whole product: 16 bits hold it. A function, for its bound.
 fn product(a: u8, b: u8) -> usize
     ensures { (result ≡ a * b) × (result < 65536) }
 {

@@ -58,7 +58,7 @@ pub enum Reason {
     Set(u8),
 }
 
-// Outcome of one comparison.
+// Outcome of one comparison: one of three, as the Rust has them, so no `Result` and no `Option`.
 #[derive(Clone, Copy)]
 pub enum Verdict {
     Ok,
