@@ -166,7 +166,7 @@ fn answer(op: Operation, input: &[u8], lent: &mut [u8]) -> u64
         Operation::TotalMax => exports::marker_total_max(input),
         Operation::Emptiable => u64::from(exports::marker_emptiable(input)),
         Operation::Tidy => exports::marker_tidy(input, lent),
-        Operation::Item(k) => u64::from(exports::marker_item(input, k, lent)),
+        Operation::Item(k) => exports::marker_item(input, k, lent) as u64,
         Operation::Join => exports::marker_effective_particle(input, lent),
         Operation::TypeDerivation(d, b) => u64::from(exports::marker_type_derivation_ok(d, b)),
         Operation::FillTypes => u64::from(exports::marker_fill_types(lent, input)),
