@@ -5,9 +5,13 @@ use Prim.Native.Nat.{ℕ, suc, ◌+◌, ◌*◌, ◌-◌, ◌≤◌, ◌<◌}
 use native.Mathlib.Nat.{le_refl}
 use native.Mathlib.Omega.{arith}
 use lib.ListN.{length}
+use Rattle.std.specs.Prelude.{Option, None, Some}
 use Rattle.particle.specs.declared.Record.{Record}
+use Rattle.particle.specs.declared.subtrees.Subtree.{Subtree}
+use Rattle.particle.specs.declared.subtrees.Subtrees.{Subtrees}
 use Rattle.particle.specs.Record.{record_at}
 use Rattle.particle.specs.Rows.{Row, items_part, later_part}
+use Rattle.particle.specs.Subtrees.{GivesFirst}
 use Rattle.particle.proofs.Laws.{row_le, later_row, items_shorter, later_shorter}
 use Rattle.particle.proofs.Folds.{items_are}
 
@@ -48,6 +52,11 @@ pub part_after : {i j : ℕ} {s t u : List ℕ} → Part i s t → i ≡ suc j �
 part_after {j = j} {s = s} w e p =
     let from : Row (suc j) s = rw (sym e) w.trees in
     rw p (record { trees = later_row from; within = omega (arith, w.within, later_shorter from) })
+
+-- a step where a tree is left, whatever is done with it, leaves those after it
+pub steps_on : (s rest : Subtrees) (r : Option Subtree) → GivesFirst s r rest → 0 < s.count → (rest.bytes.now ≡ later_part s.bytes.now) × (s.count ≡ suc rest.count)
+steps_on s rest None g l = absurd (omega (arith, g.0))
+steps_on s rest (Some first) g l = (g.1, omega (arith, g.2))
 
 -- the items of a tree
 module _ {t : List ℕ} (w : Row 1 t) {s : List ℕ} (p : s ≡ items_part t) where

@@ -1,8 +1,9 @@
 -- `empty::emptiable` and `items_emptiable` meet their contracts. A call goes to a shorter part, or from a row to one of its trees. Assumes nothing.
 use borrow.Author.Tests.{not-true, not-false}
+use Prim.Native.Nat.{◌-◌}
 use native.Mathlib.Omega.{arith}
 use Rattle.particle.proofs.Emptiness.{optional_tree, leaf_tree, empty_choice_lem, choice_tree, ordered_tree, items_start, items_end, item_decides, items_next}
-use Rattle.particle.proofs.Falls.{part_start, part_falls, part_after}
+use Rattle.particle.proofs.Falls.{part_start, part_falls, part_after, steps_on}
 use Rattle.particle.proofs.empty.+emptiable.Goals as goal
 
 pub emptiable-returns-then-r-eq0 : goal.emptiable-returns-then-r-eq0
@@ -20,24 +21,22 @@ emptiable-returns-then-r-eq-CHOICE t c = search choice_tree
 pub emptiable-returns : goal.emptiable-returns
 emptiable-returns t c = search ordered_tree
 
-pub items_emptiable-loop-item-init : goal.items_emptiable-loop-item-init
-items_emptiable-loop-item-init t c = rw c.into_iter-item-iterator.ensures.into_iter_gives (tt, tt, part_start c.args.items.row, items_start)
+pub items_emptiable-loop-rest-init : goal.items_emptiable-loop-rest-init
+items_emptiable-loop-rest-init t c = search (part_start, items_start)
 
 pub items_emptiable-emptiable-found-requires : goal.items_emptiable-emptiable-found-requires
-items_emptiable-emptiable-found-requires t c =
-    (rw c.in-Some.ensures.steps.0 (part_falls {m = 0} c.loop-item.invariant.2 (omega (arith, c.in-Some.ensures.steps.2)) c.decreases), tt)
+items_emptiable-emptiable-found-requires t c = search part_falls
 
 pub items_emptiable-returns-then-found-each : goal.items_emptiable-returns-then-found-each
 items_emptiable-returns-then-found-each t c =
-    item_decides c.loop-item.invariant.3 c.loop-item.item-iterator.row {j = c.next.new.self.count} (omega (arith, c.in-Some.ensures.steps.2)) (rw c.in-Some.ensures.steps.0 at c.emptiable-found.ensures) (not-true _ c.if-found-each.true)
+    let w = c.loop-rest.invariant in
+    item_decides w.1 w.0.trees {j = c.loop-rest.rest.count - 1} (omega (arith, c.loop-rest-test.true)) c.emptiable-found.ensures (not-true _ c.if-found-each.true)
 
-pub items_emptiable-loop-item-preserved : goal.items_emptiable-loop-item-preserved
-items_emptiable-loop-item-preserved t c = (
-  tt,
-  tt,
-  part_after {j = c.next.new.self.count} c.loop-item.invariant.2 (omega (arith, c.in-Some.ensures.steps.2)) c.in-Some.ensures.steps.1,
-  items_next c.loop-item.invariant.3 c.loop-item.item-iterator.row {j = c.next.new.self.count} (omega (arith, c.in-Some.ensures.steps.2)) (rw c.in-Some.ensures.steps.0 at c.emptiable-found.ensures) c.in-Some.ensures.steps.1 (not-false _ c.if-found-each.false),
-)
+pub items_emptiable-loop-rest-preserved : goal.items_emptiable-loop-rest-preserved
+items_emptiable-loop-rest-preserved t c =
+    let w = c.loop-rest.invariant in
+    let s = steps_on c.loop-rest.rest c.next.new.self c.next.result c.next.ensures.steps (omega (arith, c.loop-rest-test.true)) in
+    (part_after w.0 s.1 s.0, items_next w.1 w.0.trees s.1 c.emptiable-found.ensures s.0 (not-false _ c.if-found-each.false))
 
 pub items_emptiable-returns : goal.items_emptiable-returns
-items_emptiable-returns t c = items_end c.loop-item.invariant.3 (omega (arith, c.in-None.ensures.steps.0))
+items_emptiable-returns t c = search items_end

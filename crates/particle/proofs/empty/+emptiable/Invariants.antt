@@ -9,7 +9,8 @@ decreases-emptiable l = of_tree l.t.bytes.now
 abbrev pub decreases-items_emptiable : goal.decreases-items_emptiable
 decreases-items_emptiable l = of_row l.items.bytes.now
 
-abbrev pub invariant-items_emptiable-loop-item : goal.invariant-items_emptiable-loop-item
-invariant-items_emptiable-loop-item l =
-    (goal.iterator-items_emptiable-loop-item).can_next l.item-iterator × (goal.iterator-items_emptiable-loop-item).is_finite l.item-iterator × Part l.item-iterator.count l.item-iterator.bytes.now l.items.bytes.now ×
-    ItemsLeft l.each l.items.count l.items.bytes.now l.item-iterator.bytes.now l.item-iterator.count
+abbrev pub invariant-items_emptiable-loop-rest : goal.invariant-items_emptiable-loop-rest
+invariant-items_emptiable-loop-rest l = Part l.rest.count l.rest.bytes.now l.items.bytes.now × ItemsLeft l.each l.items.count l.items.bytes.now l.rest.bytes.now l.rest.count
+
+abbrev pub decreases-items_emptiable-loop-rest : goal.decreases-items_emptiable-loop-rest
+decreases-items_emptiable-loop-rest l = l.rest.count
