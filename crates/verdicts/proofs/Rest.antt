@@ -1,7 +1,7 @@
 -- What a loop over the first n trees of a part keeps: i trees are passed, and k are left, the next of which starts `rest`. Assumes nothing.
 use mathlib.Core.Path.{◌≡◌, refl, ap, ◌∙◌}
 use mathlib.Core.List.{List}
-use Prim.Native.Nat.{ℕ, suc, ◌+◌, ◌<◌}
+use Prim.Native.Nat.{ℕ, suc, ◌+◌, ◌-◌, ◌<◌}
 use native.Mathlib.Omega.{arith}
 use Rattle.std.specs.Prelude.{Option, None, Some}
 use Rattle.particle.specs.declared.Record.{Record}
@@ -37,6 +37,10 @@ step g = record { here = g.0; after = g.1; fewer = omega (arith, g.2) }
 pub stepped : (s rest : Subtrees) (r : Option Subtree) → GivesFirst s r rest → 0 < s.count → Step s.count s.bytes.now s.bytes.now rest.bytes.now rest.count
 stepped s rest None g l = absurd (omega (arith, g.0))
 stepped s rest (Some first) g l = record { here = refl; after = g.1; fewer = omega (arith, g.2) }
+
+-- the step that there will be, where a tree is left
+pub ahead : (s : Subtrees) → 0 < s.count → Step s.count s.bytes.now s.bytes.now (later_part s.bytes.now) (s.count - 1)
+ahead s l = record { here = refl; after = refl; fewer = omega (arith, l) }
 
 module _ {k j : ℕ} {t first rest : List ℕ} (g : Step k t first rest j) where
   pub rest_row : Row k t → Row j rest

@@ -9,7 +9,7 @@ ghost use Rattle.verdicts.specs.Paper.{paper_leaves, paper_tables};
 ghost use Rattle.verdicts.specs.Taken.{untaken_items, has_name, found_of, MemberMark};
 
 use crate::{Paper, Reason, Verdict, definite};
-use particle::{MAX_RECORDS, Occurs, Record, Subtrees};
+use particle::{MAX_RECORDS, Occurs, Record, Subtree, Subtrees};
 
 // Whether the item of this record is untaken and an element of this name.
 fn is_free(taken: bool, head: Record, name: u32, paper: &Paper) -> bool
@@ -74,14 +74,17 @@ fn take_members(ds: Subtrees, bs: Subtrees, matched: &mut [bool], paper: &Paper)
     ensures { mark_of result ≡ recurse_unordered (paper_leaves paper.now) (paper_tables paper.now) (row_of ds.entry) (untaken_items matched.old (row_of bs.entry)) }
 {
     let mut seen = false;
+    let mut rest = ds;
     let mut free = bs;
     let mut low: usize = 0;
-    for d in ds {
+    // No `for`: the next item is looked for only where this one doesn't decide. A group, which decides, may have many records.
+    while 0 < rest.count {
         // The two go on together: the flags stand in a slice of their own.
         while free.count > 0 && matched[low] {
             let _ = free.next();
             low += 1;
         }
+        let d = Subtree { bytes: rest.bytes };
         let v = member_restrict(d.record(), free, &mut matched[low..], paper);
         match v {
             Verdict::Ok => {}
@@ -92,6 +95,7 @@ fn take_members(ds: Subtrees, bs: Subtrees, matched: &mut [bool], paper: &Paper)
                 return definite(v, seen);
             }
         }
+        let _ = rest.next();
     }
     definite(untaken(free, &matched[low..]), seen)
 }

@@ -1,28 +1,33 @@
 -- `unordered::take_members` meets its contract. Assumes nothing.
 use native.Mathlib.Omega.{arith}
-use Rattle.verdicts.proofs.Rest.{step, stepped}
+use Rattle.verdicts.proofs.Rest.{stepped, ahead}
 use Rattle.verdicts.proofs.Members.{past_none, past_one, start, passed, unsure, failed, at_end}
 use Rattle.verdicts.proofs.unordered.take_members.Goals as goal
+use Rattle.verdicts.proofs.unordered.take_members.Goals.{in-Ok, in-Unknown}
 
-pub loop-d-init : goal.loop-d-init
-loop-d-init c = rw c.into_iter-d-iterator.ensures.into_iter_gives (start _ _ _ _ _ _ _ c.args.ds.row c.args.bs.row)
+pub loop-rest-init : goal.loop-rest-init
+loop-rest-init c = search start
 
 pub loop-free-init : goal.loop-free-init
-loop-free-init c = past_none c.loop-d.invariant.base
+loop-free-init c = past_none c.loop-rest.invariant.base
 
 pub loop-free-preserved : goal.loop-free-preserved
 loop-free-preserved c =
-    let next = c.next-in-loop-free in
-    past_one c.loop-free.invariant (stepped c.loop-free.free next.new.self next.result next.ensures.steps c.loop-free-test.true) (omega (arith, c.loop-d.invariant.flags, c.loop-free.invariant.base.passed, c.requires)) c.if-matched-low.true
+    let next = c.next in
+    past_one c.loop-free.invariant (stepped c.loop-free.free next.new.self next.result next.ensures.steps c.loop-free-test.true) (omega (arith, c.loop-rest.invariant.flags, c.loop-free.invariant.base.passed, c.requires)) (search)
 
-pub loop-d-preserved-in-Ok : goal.loop-d-preserved-in-Ok
-loop-d-preserved-in-Ok c = search (passed, step c.in-Some.ensures.steps)
-
-pub loop-d-preserved : goal.loop-d-preserved
-loop-d-preserved c = search (unsure, step c.in-Some.ensures.steps)
+pub loop-rest-preserved : goal.loop-rest-preserved
+loop-rest-preserved c =
+    let next = c.next-in-loop-rest in
+    let step = stepped c.loop-rest.rest next.new.self next.result next.ensures.steps c.loop-rest-test.true in
+    let judged = c.member_restrict-v.ensures in
+    elim c.match-v.branch [
+      | in-Ok w ↦ rw w.seen-is (passed _ _ _ _ _ _ _ c.requires c.loop-rest.invariant c.loop-free.invariant step c.record.ensures judged (search) (search))
+      | in-Unknown w ↦ rw w.seen-is (unsure _ _ _ _ _ _ _ c.requires c.loop-rest.invariant c.loop-free.invariant step c.record.ensures judged (search) (search))
+    ]
 
 pub returns-in-Violation : goal.returns-in-Violation
-returns-in-Violation c = search (failed, step c.in-Some.ensures.steps)
+returns-in-Violation c = search (failed, ahead c.loop-rest.rest c.loop-rest-test.true)
 
 pub returns : goal.returns
-returns c = search (at_end, c.in-None.ensures.steps)
+returns c = at_end _ _ _ _ _ _ _ c.loop-rest.invariant (omega (arith, c.loop-rest-test.false)) c.untaken.ensures c.definite-2.ensures
