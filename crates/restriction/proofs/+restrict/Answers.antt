@@ -70,14 +70,14 @@ by_kinds-same_kind-requires-in-18 t c = (to_both (read t (goal.at.by_kinds-same_
 pub by_kinds-sequence_choice-requires : goal.by_kinds-sequence_choice-requires
 by_kinds-sequence_choice-requires t c = (to_both (read t (goal.at.by_kinds-sequence_choice-requires t c).After-kind_of-2), search rules)
 
-pub by_kinds-group_wildcard-requires : goal.by_kinds-group_wildcard-requires
-by_kinds-group_wildcard-requires t c = (to_members (read t (goal.at.by_kinds-group_wildcard-requires t c).After-kind_of-2), search rules)
+pub by_kinds-group_wildcard-mark-requires : goal.by_kinds-group_wildcard-mark-requires
+by_kinds-group_wildcard-mark-requires t c = (to_members (read t (goal.at.by_kinds-group_wildcard-mark-requires t c).After-kind_of-2), search rules)
 
-pub by_kinds-group_wildcard-requires-in-16 : goal.by_kinds-group_wildcard-requires-in-16
-by_kinds-group_wildcard-requires-in-16 t c = (to_members (read t (goal.at.by_kinds-group_wildcard-requires-in-16 t c).After-kind_of-2), search rules)
+pub by_kinds-group_wildcard-mark-requires-in-16 : goal.by_kinds-group_wildcard-mark-requires-in-16
+by_kinds-group_wildcard-mark-requires-in-16 t c = (to_members (read t (goal.at.by_kinds-group_wildcard-mark-requires-in-16 t c).After-kind_of-2), search rules)
 
-pub by_kinds-group_wildcard-requires-in-21 : goal.by_kinds-group_wildcard-requires-in-21
-by_kinds-group_wildcard-requires-in-21 t c = (to_members (read t (goal.at.by_kinds-group_wildcard-requires-in-21 t c).After-kind_of-2), search rules)
+pub by_kinds-group_wildcard-mark-requires-in-21 : goal.by_kinds-group_wildcard-mark-requires-in-21
+by_kinds-group_wildcard-mark-requires-in-21 t c = (to_members (read t (goal.at.by_kinds-group_wildcard-mark-requires-in-21 t c).After-kind_of-2), search rules)
 
 pub by_kinds-returns-in-0 : goal.by_kinds-returns-in-0
 unfolding rule
@@ -121,7 +121,7 @@ pub by_kinds-returns-in-10 : goal.by_kinds-returns-in-10
 by_kinds-returns-in-10 t c = sequence_element_arm c.args.paper.now (read t (goal.at.by_kinds-returns-in-10 t c).After-kind_of-2) c.exactly_one-one.ensures c.in-10.is (rw (c.alone.ensures.bytes, c.alone.ensures.count) at c.same_kind.ensures)
 
 pub by_kinds-returns-in-11 : goal.by_kinds-returns-in-11
-by_kinds-returns-in-11 t c = group_wildcard_arm c.args.paper.now 2 (omega arith) (read t (goal.at.by_kinds-returns-in-11 t c).After-kind_of-2) c.in-11.is c.group_wildcard.ensures
+by_kinds-returns-in-11 t c = group_wildcard_arm c.args.paper.now 2 (omega arith) (read t (goal.at.by_kinds-returns-in-11 t c).After-kind_of-2) c.in-11.is c.group_wildcard-mark.ensures
 
 pub by_kinds-returns-in-12 : goal.by_kinds-returns-in-12
 by_kinds-returns-in-12 t c = sequences_arm c.args.paper.now (read t (goal.at.by_kinds-returns-in-12 t c).After-kind_of-2) c.in-12.is c.same_kind-in-12.ensures
@@ -131,13 +131,13 @@ by_kinds-returns-in-13 t c = sequence_choice_arm c.args.paper.now (read t (goal.
 
 pub by_kinds-returns-in-14 : goal.by_kinds-returns-in-14
 unfolding rule
-by_kinds-returns-in-14 t c = arm c.args.paper.now 2 4 (omega arith) (read t (goal.at.by_kinds-returns-in-14 t c).After-kind_of-2) c.in-14.is c.group_all.ensures
+by_kinds-returns-in-14 t c = arm c.args.paper.now 2 4 (omega arith) (read t (goal.at.by_kinds-returns-in-14 t c).After-kind_of-2) c.in-14.is c.group_all-mark.ensures
 
 pub by_kinds-returns-in-15 : goal.by_kinds-returns-in-15
 by_kinds-returns-in-15 t c = choice_element_arm c.args.paper.now (read t (goal.at.by_kinds-returns-in-15 t c).After-kind_of-2) c.exactly_one-one.ensures c.in-15.is (rw (c.alone-in-15.ensures.bytes, c.alone-in-15.ensures.count) at c.same_kind-in-15.ensures)
 
 pub by_kinds-returns-in-16 : goal.by_kinds-returns-in-16
-by_kinds-returns-in-16 t c = group_wildcard_arm c.args.paper.now 3 (omega arith) (read t (goal.at.by_kinds-returns-in-16 t c).After-kind_of-2) c.in-16.is c.group_wildcard-in-16.ensures
+by_kinds-returns-in-16 t c = group_wildcard_arm c.args.paper.now 3 (omega arith) (read t (goal.at.by_kinds-returns-in-16 t c).After-kind_of-2) c.in-16.is c.group_wildcard-mark-in-16.ensures
 
 pub by_kinds-returns-in-18 : goal.by_kinds-returns-in-18
 by_kinds-returns-in-18 t c = choices_arm c.args.paper.now (read t (goal.at.by_kinds-returns-in-18 t c).After-kind_of-2) c.in-18.is c.same_kind-in-18.ensures
@@ -147,11 +147,11 @@ unfolding rule
 by_kinds-returns-in-20 t c = arm c.args.paper.now 4 0 (omega arith) (read t (goal.at.by_kinds-returns-in-20 t c).After-kind_of-2) c.in-20.is refl
 
 pub by_kinds-returns-in-21 : goal.by_kinds-returns-in-21
-by_kinds-returns-in-21 t c = group_wildcard_arm c.args.paper.now 4 (omega arith) (read t (goal.at.by_kinds-returns-in-21 t c).After-kind_of-2) c.in-21.is c.group_wildcard-in-21.ensures
+by_kinds-returns-in-21 t c = group_wildcard_arm c.args.paper.now 4 (omega arith) (read t (goal.at.by_kinds-returns-in-21 t c).After-kind_of-2) c.in-21.is c.group_wildcard-mark-in-21.ensures
 
 pub by_kinds-returns-in-24 : goal.by_kinds-returns-in-24
 unfolding rule
-by_kinds-returns-in-24 t c = arm c.args.paper.now 4 4 (omega arith) (read t (goal.at.by_kinds-returns-in-24 t c).After-kind_of-2) c.in-24.is c.group_all-in-24.ensures
+by_kinds-returns-in-24 t c = arm c.args.paper.now 4 4 (omega arith) (read t (goal.at.by_kinds-returns-in-24 t c).After-kind_of-2) c.in-24.is c.group_all-mark-in-24.ensures
 
 pub by_kinds-returns-in_default : goal.by_kinds-returns-in_default
 by_kinds-returns-in_default t c = other_arm c.args.paper.now (read t (goal.at.by_kinds-returns-in_default t c).After-kind_of-2) (search)
