@@ -6,12 +6,13 @@ use std::io;
 use streams::ROOM;
 
 fn describe(out: &impl Print, t: &[u8]) -> io::Result<()> {
-    match (entries::total_range(t), entries::emptiable(t)) {
-        (Ok(total), Ok(emptiable)) => {
-            println!(out; "total {total}")?;
-            println!(out; "emptiable {}", if emptiable { "yes" } else { "no" })
-        }
-        (Err(r), _) | (_, Err(r)) => println!(out; "{r}"),
+    match entries::total_range(t) {
+        Ok(total) => println!(out; "total {total}")?,
+        Err(r) => return println!(out; "{r}"),
+    }
+    match entries::emptiable(t) {
+        Ok(emptiable) => println!(out; "emptiable {}", if emptiable { "yes" } else { "no" }),
+        Err(r) => println!(out; "{r}"),
     }
 }
 
