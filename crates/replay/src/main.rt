@@ -20,7 +20,8 @@
 //   11 marker_fill_types_by, over types::fill_types_by: the input is k type numbers and then the table of types, the lent buffer the sheet
 #![tactic(auto)]
 
-ghost use Rattle.std.specs.Prelude.{◌≡◌, take, drop};
+ghost use Rattle.std.specs.Prelude.{◌≡◌, ◌+◌, ◌*◌, ◌^◌, take, drop, IfSome};
+ghost use Rattle.particle.specs.Record.{half, word};
 ghost use Rattle.types.specs.Answer.{fill_answer, filled_sheet};
 ghost use Rattle.exports.specs.Numbers.{filled_number};
 ghost use Rattle.replay.specs.Expected.{number_of, buffer_of, Agrees};
@@ -116,7 +117,7 @@ impl From<io::Error> for Stop {
 // What an operation's number stands for, if anything: the numbers are the file's, and a match turns them into an enum once.
 fn asked_for(number: u8, k: [u8; 2]) -> Option<Operation> {
     let [low, high] = k;
-    let count = usize::from(u16::from_le_bytes(k));
+    let count = streams::number_at(&k, 0);
     let (derived, base) = (u32::from(low), u32::from(high));
     Some(match number {
         1 => Operation::Mark,
@@ -134,15 +135,18 @@ fn asked_for(number: u8, k: [u8; 2]) -> Option<Operation> {
     })
 }
 
-// The head, unless its operation is unknown.
-fn head_of(bytes: &[u8; HEAD]) -> Option<Head> {
+// The head, unless its operation is unknown. The answer is a number of eight bytes, the lower four first.
+fn head_of(bytes: &[u8; HEAD]) -> Option<Head>
+    ensures lengths { IfSome result (λ h. (h.input_len ≡ half bytes.now 3) × (h.lent_len ≡ half bytes.now 5)) }
+    ensures answer { IfSome result (λ h. h.answer ≡ word bytes.now 7 + word bytes.now 11 * 2 ^ 32) }
+{
+    let low = u64::from(particle::read_u32(bytes, 7));
+    let high = u64::from(particle::read_u32(bytes, 11));
     Some(Head {
         operation: asked_for(bytes[0], [bytes[1], bytes[2]])?,
-        input_len: u16::from_le_bytes([bytes[3], bytes[4]]),
-        lent_len: u16::from_le_bytes([bytes[5], bytes[6]]),
-        answer: u64::from_le_bytes([
-            bytes[7], bytes[8], bytes[9], bytes[10], bytes[11], bytes[12], bytes[13], bytes[14],
-        ]),
+        input_len: particle::read_u16(bytes, 3),
+        lent_len: particle::read_u16(bytes, 5),
+        answer: low + high * 4294967296,
     })
 }
 
