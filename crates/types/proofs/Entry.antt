@@ -1,4 +1,5 @@
 -- What the filling of a sheet owes, from what the functions that it calls answer. Assumes nothing.
+use Rattle.std.specs.Prelude.{Ok}
 use mathlib.Core.Path.{◌≡◌, refl, ap, ◌∙◌}
 use mathlib.Core.Bool.{true, not, ◌||◌}
 use mathlib.Core.List.{List, [], ◌∷◌, ◌++◌}
@@ -8,9 +9,10 @@ use lib.ListN.{length, take, drop, length-drop}
 use lib.Seq.{length-take-le}
 use borrow.Rule.Slice.PartMut.{mid_of, put_mid, Post-is}
 use Rattle.particle.proofs.Tests.{and-true}
-use Rattle.sheet.specs.Layout.{leaf_count, second_at, derived_at, leaves_in, leaves_part, second_part}
-use Rattle.sheet.specs.Refused.{contents_ok, kinds_of}
-use Rattle.sheet.proofs.Contents.{derived_at_within}
+use Rattle.sheet.specs.Layout.{contents_size, leaf_count, second_at, derived_at, leaves_in, leaves_part, second_part}
+use Rattle.sheet.specs.Refused.{contents_ok, kinds_of, sheet_refusal}
+use Rattle.sheet.proofs.AcceptedSheet.{passed}
+use Rattle.sheet.proofs.Contents.{contents, derived_at_within}
 use Rattle.sheet.proofs.Refusing as leaves
 use Rattle.sheet.proofs.LeafBytes.{length_leaves_in, length_kinds}
 use Rattle.types.specs.Derives.{has_type}
@@ -60,6 +62,14 @@ module _ (parents s types : List ℕ) (ok : contents_ok s ≡ true) {kinds : Lis
     filled_whole {table} e = in_place table ∙ rw (e, second_lies s ok se ee, so_many, ke, se, ee)
 
 -- The entry ------------------------------------------------------------------------
+
+-- an accepted sheet
+module _ (s : List ℕ) (a : sheet_refusal s ≡ Ok tt) where
+  pub contents_ok_lem : contents_ok s ≡ true
+  contents_ok_lem = (passed s a).contents
+
+  pub contents_whole : contents_size ≤ length s
+  contents_whole = (contents s contents_ok_lem).start
 
 -- the kinds of its n leaves were put down
 module _ (s : List ℕ) {n : ℕ} (ne : n ≡ leaf_count s) (kinds : List ℕ) (k : take (leaf_count s) kinds ≡ leaf_kinds s) where

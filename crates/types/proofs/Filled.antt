@@ -18,8 +18,7 @@ use Rattle.types.specs.Answer.{fill_or, fill_answer, filled_sheet}
 use Rattle.types.specs.Facts.{Fills, EachFilled, FilledTwice, FilledAccepted, FilledIsFilledIn, FilledKeepsMark}
 use Rattle.types.proofs.Cells.{rows_cell, rows_twice}
 use Rattle.types.proofs.Verdicts.{fill_twice}
-use Rattle.marking.proofs.Marking.{contents_ok_lem}
-use Rattle.types.proofs.Entry.{length_second}
+use Rattle.types.proofs.Entry.{contents_ok_lem, length_second}
 use Rattle.types.proofs.FilledIn.{front, middle, back, filled_in}
 
 fills_accepted : (n : ℕ) (table : Bool) (c : Result (Unit {0}) Refusal) (ok : Bool) → cond table (fill_or c ok) (refused n) ≡ gives tt → c ≡ Ok tt

@@ -17,8 +17,7 @@ use Rattle.marking.proofs.FilledRows.{FilledRow, none, more}
 use Rattle.types.specs.Fill.{leaf_kinds, fill_verdict, fill_row, fill_rows, fill_second, fill_sheet}
 use Rattle.types.proofs.Cells.{later_size, length_rows}
 use Rattle.types.proofs.Verdicts.{fill_byte}
-use Rattle.marking.proofs.Marking.{contents_ok_lem}
-use Rattle.types.proofs.Entry.{second_within, length_second}
+use Rattle.types.proofs.Entry.{contents_ok_lem, second_within, length_second}
 
 -- Rows of bytes, before and after ----------------------------------------------------
 

@@ -19,8 +19,7 @@ use Rattle.types.specs.Answer.{filled_sheet}
 use Rattle.types.specs.Facts.{Fills, NoneUndecided}
 use Rattle.types.proofs.Answers.{two_verdicts}
 use Rattle.types.proofs.Verdicts.{not_undecided}
-use Rattle.marking.proofs.Marking.{contents_ok_lem}
-use Rattle.types.proofs.Entry.{second_within}
+use Rattle.types.proofs.Entry.{contents_ok_lem, second_within}
 use Rattle.types.proofs.Filled.{same_count, filled_accepted}
 use Rattle.types.proofs.FilledExactly.{verdicts_stay, elements_filled}
 

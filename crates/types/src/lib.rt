@@ -29,7 +29,7 @@ pub fn type_derivation_ok_by(parents: &[u8], derived: u32, base: u32) -> Result<
 
 // Fills the sheet's second table in, where it has 1 for two elements, from their rows in a table of types, a number for each leaf; every
 // other byte keeps its value. On every refusal nothing is written.
-#[tactic(auto, using(marking::proofs::Marking::contents_ok_lem, marking::proofs::Marking::contents_whole), unfolding(crate::specs::Answer::fill_answer, crate::specs::Answer::filled_sheet))]
+#[tactic(auto, using(crate::proofs::Entry::contents_ok_lem, crate::proofs::Entry::contents_whole), unfolding(crate::specs::Answer::fill_answer, crate::specs::Answer::filled_sheet))]
 pub fn fill_types_by(sheet: &mut [u8], types: &[u8], parents: &[u8]) -> Result<(), Refusal>
     ensures result_value { fill_meaning result ≡ fill_answer parents.now sheet.old types.now }
     ensures sheet_after { sheet.new ≡ filled_sheet parents.now sheet.old types.now }
