@@ -1,6 +1,6 @@
 -- What the cut is on either side of 4294967295. Assumes nothing.
 use mathlib.Core.Bool.{cond}
-use mathlib.Core.Path.{◌≡◌}
+use mathlib.Core.Path.{◌≡◌, ap, ap₂, sym, ◌∙◌}
 use Prim.Native.Nat.{ℕ, ◌≤◌, ◌<◌}
 use native.Mathlib.Decide.{dec_le}
 use native.Mathlib.Omega.{arith}
@@ -48,6 +48,14 @@ bounded_within n = within (most.Bounded n) most.TooLarge n
 
 pub bounded_above : (n : ℕ) → largest < n → cut_bounded n ≡ most.TooLarge
 bounded_above n = above (most.Bounded n) most.TooLarge n
+
+-- f of operands of which something is known, the first or both
+module _ {A B C : Type 0} (f : A → B → C) {r : C} where
+  pub of_left : {a x : A} (b : B) → a ≡ x → r ≡ f x b → r ≡ f a b
+  of_left b e p = p ∙ ap (λ (z : A). f z b) (sym e)
+
+  pub of_both_lem : {a x : A} {b y : B} → a ≡ x → b ≡ y → r ≡ f x y → r ≡ f a b
+  of_both_lem e g p = p ∙ ap₂ f (sym e) (sym g)
 
 -- a pair and a range, number by number
 pub same_pair : {m n : ℕ} {a b : MaxOccurs} → m ≡ n → a ≡ b → ◌≡◌ {A = Occurs} (record { min = m; max = a }) (record { min = n; max = b })
