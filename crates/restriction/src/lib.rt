@@ -43,8 +43,9 @@ pub fn restrict(d: MeasuredTree, once: bool, b: MeasuredTree, any: bool, paper: 
 }
 
 // The same by the two kinds: each pair selects its rule. As document 01 has it, the pair is one number, five by five.
-// A mark that comes from a function of its own gets a name before it is handed back, here and in `restrict`: so the compiler keeps it in
-// registers, and doesn't read as a whole what was just written in parts. Without the names the longest markings take a quarter longer.
+// A mark that comes from a call which isn't compiled into this function gets a name before it is handed back, here and in `restrict`: so
+// the compiler keeps it in registers, and doesn't read as a whole what was just written in parts. Without the names the longest markings
+// take a quarter longer.
 #[cycle(restrict)]
 fn by_kinds(d: MeasuredTree, once: bool, b: MeasuredTree, any: bool, paper: &Paper) -> Verdict
     ensures { mark_of result ≡ paper_judge paper.now (as_once once (tree_of d.entry)) (as_any any (tree_of b.entry)) }
@@ -75,7 +76,7 @@ fn by_kinds(d: MeasuredTree, once: bool, b: MeasuredTree, any: bool, paper: &Pap
         12 => same_kind(ds, false, p, bs, q, false, paper),
         13 => sequence_choice(ds, p, bs, q, paper),
         14 => {
-            let mark = group_all(ds, p, bs, q, false, paper);
+            let mark = group_all(d, p, b, q, false, paper);
             mark
         }
         15 => same_kind(ds, false, p, b.alone(), one, true, paper),
@@ -90,7 +91,7 @@ fn by_kinds(d: MeasuredTree, once: bool, b: MeasuredTree, any: bool, paper: &Pap
             mark
         }
         24 => {
-            let mark = group_all(ds, p, bs, q, true, paper);
+            let mark = group_all(d, p, b, q, true, paper);
             mark
         }
         _ => Verdict::Violation(Reason::GroupKind),

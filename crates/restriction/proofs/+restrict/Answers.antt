@@ -131,7 +131,9 @@ by_kinds-returns-in-13 t c = sequence_choice_arm c.args.paper.now (read t (goal.
 
 pub by_kinds-returns-in-14 : goal.by_kinds-returns-in-14
 unfolding rule
-by_kinds-returns-in-14 t c = arm c.args.paper.now 2 4 (omega arith) (read t (goal.at.by_kinds-returns-in-14 t c).After-kind_of-2) c.in-14.is c.group_all-mark.ensures
+by_kinds-returns-in-14 t c =
+    let s = read t (goal.at.by_kinds-returns-in-14 t c).After-kind_of-2 in
+    arm c.args.paper.now 2 4 (omega arith) s c.in-14.is (rw (s.derived.below, s.derived.many, s.base.below, s.base.many) c.group_all-mark.ensures)
 
 pub by_kinds-returns-in-15 : goal.by_kinds-returns-in-15
 by_kinds-returns-in-15 t c = choice_element_arm c.args.paper.now (read t (goal.at.by_kinds-returns-in-15 t c).After-kind_of-2) c.exactly_one-one.ensures c.in-15.is (rw (c.alone-in-15.ensures.bytes, c.alone-in-15.ensures.count) at c.same_kind-in-15.ensures)
@@ -151,7 +153,9 @@ by_kinds-returns-in-21 t c = group_wildcard_arm c.args.paper.now 4 (omega arith)
 
 pub by_kinds-returns-in-24 : goal.by_kinds-returns-in-24
 unfolding rule
-by_kinds-returns-in-24 t c = arm c.args.paper.now 4 4 (omega arith) (read t (goal.at.by_kinds-returns-in-24 t c).After-kind_of-2) c.in-24.is c.group_all-mark-in-24.ensures
+by_kinds-returns-in-24 t c =
+    let s = read t (goal.at.by_kinds-returns-in-24 t c).After-kind_of-2 in
+    arm c.args.paper.now 4 4 (omega arith) s c.in-24.is (rw (s.derived.below, s.derived.many, s.base.below, s.base.many) c.group_all-mark-in-24.ensures)
 
 pub by_kinds-returns-in_default : goal.by_kinds-returns-in_default
 by_kinds-returns-in_default t c = other_arm c.args.paper.now (read t (goal.at.by_kinds-returns-in_default t c).After-kind_of-2) (search)
